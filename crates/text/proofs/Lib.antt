@@ -1,0 +1,4 @@
+pub mod Classes
+pub mod Cuts
+pub mod Digits
+pub mod Lexing

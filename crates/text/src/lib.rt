@@ -1,0 +1,14 @@
+//! The token layer: from the bytes of a command to its tokens.
+mod bytes;
+mod reader;
+mod spans;
+mod token;
+
+pub use bytes::Kind;
+pub use bytes::kind_of;
+pub use reader::Reader;
+pub use reader::scan;
+pub use spans::skip;
+pub use token::Token;
+pub use token::TokenFault;
+pub use token::TokenFaultDisplay;
