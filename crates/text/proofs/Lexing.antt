@@ -9,7 +9,7 @@ use Rattle.std.proofs.shelf.Lists.{take-rest, length-map}
 use Rattle.std.proofs.shelf.Ways.{tells}
 use Rattle.text.specs.Bytes.{isBlank, isSemicolon, inLine, kind}
 use Rattle.text.specs.Parts.{Part, Reach, parts, partsFrom, Skips}
-use Rattle.text.specs.Tokens.{Tok, keyword, tokenAt, tokenOf, short, lexeme}
+use Rattle.text.specs.Tokens.{Tok, keyword, place, short, tokenAt, tokenOf, lexeme, tokensFrom}
 use Rattle.text.specs.declared.bytes.Kind.the-variants.{Colon}
 use Rattle.text.proofs.Cuts.{next-part, no-part, few-parts}
 
@@ -18,10 +18,6 @@ keyword-at at bs k le lt =
     let whole : keyword at (take (length bs - 1) (drop 1 bs)) ≡ keyword at (drop 1 bs) = ap (keyword at) (take-rest bs 1) in
     let here : short (kind (getD bs 0 0)) at bs ≡ short Colon at bs = ap (λ j. short j at bs) (sym k) in
     whole ∙ grind (arith, tells)
-
--- the tokens from a place on
-abbrev pub tokensFrom : List ℕ → ℕ → List Tok
-tokensFrom text i = map tokenOf (partsFrom lexeme text i)
 
 pub no-token : (text : List ℕ) (from at : ℕ) → Skips text from at → length text ≤ at → tokensFrom text from ≡ []
 no-token text from at h le = ap (map tokenOf) (no-part lexeme text from at h le)

@@ -1,5 +1,5 @@
 -- What a reader of tokens still has to give, and what its calls answer.
-use mathlib.Core.List.{List, [], _∷_, map}
+use mathlib.Core.List.{List, [], _∷_}
 use mathlib.Core.Path.{_≡_}
 use Prim.Native.Nat.{ℕ}
 use lib.ListN.{length, take}
@@ -7,15 +7,14 @@ use Rattle.std.specs.declared.option.Option.{Option}
 use Rattle.std.specs.declared.option.Option.the-variants.{Some, None}
 use Rattle.std.specs.declared.result.Result.{Result}
 use Rattle.std.specs.declared.result.Result.the-variants.{Ok, Err}
-use Rattle.text.specs.Parts.{partsFrom}
-use Rattle.text.specs.Tokens.{Tok, fault, tokenOf, lexeme, firstFault, seen}
+use Rattle.text.specs.Tokens.{Tok, fault, tokensFrom, firstFault, seen}
 use Rattle.text.specs.declared.reader.Reader.{Reader}
 use Rattle.text.specs.declared.token.Token.{Token}
 use Rattle.text.specs.declared.token.TokenFault.{TokenFault}
 
 -- The tokens that a reader still has to give.
 unfoldable pub left : Reader → List Tok
-left reader = map tokenOf (partsFrom lexeme (reader .text .now) (reader .cursor))
+left reader = tokensFrom (reader .text .now) (reader .cursor)
 
 -- What `next` answers where the tokens `was` are to come, and those that are to come after it. At a fault the reader stays.
 abbrev pub Next : List Tok → Result (Option Token) TokenFault → List Tok → Type 0

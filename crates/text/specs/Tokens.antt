@@ -85,8 +85,20 @@ lexeme b bs = begins (kind b) bs
 abbrev pub lexemes : List ℕ → List Part
 lexemes text = partsFrom lexeme text 0
 
+abbrev pub tokensFrom : List ℕ → ℕ → List Tok
+tokensFrom text i = map tokenOf (partsFrom lexeme text i)
+
 abbrev pub tokens : List ℕ → List Tok
-tokens text = map tokenOf (lexemes text)
+tokens text = tokensFrom text 0
+
+-- The place of a token.
+abbrev pub place : Tok → ℕ
+place (opens at) = at
+place (closes at) = at
+place (symbol at bs) = at
+place (keyword at bs) = at
+place (numeral at n) = at
+place (fault f) = placeOf f
 
 -- The first fault among tokens, if there is one.
 abbrev pub firstFault : List Tok → Option TokenFault

@@ -8,6 +8,8 @@ pub use bytes::Kind;
 pub use bytes::kind_of;
 pub use reader::Reader;
 pub use reader::scan;
+pub use spans::Class;
+pub use spans::run_end;
 pub use spans::skip;
 pub use token::Token;
 pub use token::TokenFault;

@@ -11,7 +11,7 @@ use crate::token::token_at;
 ghost use mathlib.Core.Path.{_≡_};
 ghost use Prim.Native.Nat.{_+_, _<_, _≤_};
 ghost use lib.ListN.{length, getD, drop};
-ghost use Rattle.text.specs.Tokens.{lexeme, tokens};
+ghost use Rattle.text.specs.Tokens.{lexeme, tokens, tokensFrom};
 ghost use Rattle.text.specs.Reading.{left, Next, Scans};
 
 /// Reads the tokens of a command one by one.
@@ -39,6 +39,13 @@ impl<'a> Reader<'a> {
         ensures few { λ r. ⌜ length (left r) ≤ length (now (text .entry)) ⌝ }
     {
         Reader { text, cursor: 0 }
+    }
+
+    /// A reader of the tokens of `text` from the place `at` on.
+    pub fn at(text: &'a [u8], at: usize) -> Reader<'a>
+        ensures { λ r. ⌜ left r ≡ tokensFrom (now (text .entry)) at ⌝ }
+    {
+        Reader { text, cursor: at }
     }
 
     /// The next token, or `None` at the end. At a fault the reader stays.
