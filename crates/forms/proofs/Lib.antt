@@ -1,3 +1,4 @@
+pub mod Groups
 pub mod Items
 pub mod Lists
 pub mod Spelling

@@ -4,13 +4,13 @@ use mathlib.Core.Path.{_≡_, refl, sym, _∙_, ap, subst}
 use Prim.Native.Nat.{ℕ, _+_, _≤_, _<_}
 use native.Mathlib.Omega.{arith}
 use lib.ListN.{length}
-use Rattle.text.specs.Tokens.{Tok, opens, closes, symbol, numeral, keyword, fault, seen}
+use Rattle.text.specs.Tokens.{Tok, opens, closes, symbol, numeral, keyword, fault, seen, place}
 use Rattle.text.specs.declared.token.Token.{Token}
 use Rattle.text.specs.declared.token.Token.the-variants as token
 use Rattle.forms.specs.Takes.{NoToken}
-use Rattle.forms.specs.Trees.{Tree, name, number, call, Trees, none, more, count, spell, spells, Fit, Fits, First, NoneFirst, Listed, NotListed}
+use Rattle.forms.specs.Trees.{Tree, start, FirstAt, name, number, call, Trees, none, more, count, spell, spells, Fit, Fits, First, NoneFirst, Listed, NotListed}
 use Rattle.forms.specs.declared.item.Item.{Item}
-use Rattle.forms.proofs.Spelling.{off, not-close, same-tree}
+use Rattle.forms.proofs.Spelling.{off, not-close, same-tree, same-trees}
 
 -- one more tree at the end
 abbrev pub snoc : Trees → Tree → Trees
@@ -130,3 +130,30 @@ module _ (item : Item) (least n : ℕ) (all text : List Tok) (r : Reading item n
     fits = fits-snoc item (r .read) (f .tree) (r .fits) (f .fit);
     spelt = r .spelt ∙ ap (spells (r .read)) (is ∙ f .spelt) ∙ sym (spells-snoc (r .read) (f .tree) rest);
   }
+
+-- what follows a list or a term is what follows it in any spelling
+pub after-list : (item : Item) (least : ℕ) (text rest : List Tok) → Listed item least text rest → (ts : Trees) (end : ℕ) (others : List Tok) → text ≡ spells ts (closes end ∷ others) → rest ≡ others
+after-list item least text rest l ts end others e = same-trees (l .trees) ts (l .end) end rest others (sym (l .spelt) ∙ e) .2
+
+pub after-term : (item : Item) (text : List Tok) (at : ℕ) (rest : List Tok) → FirstAt item text at rest → (t : Tree) (others : List Tok) → text ≡ spell t others → rest ≡ others
+after-term item text at rest f t others e = same-tree (f .tree) t rest others (sym (f .spelt) ∙ e) .1
+
+-- where no token is first no item is
+pub none-without : (item : Item) (text : List Tok) → NoToken text → NoneFirst item text
+none-without item text empty (name a w) rest f e = subst NoToken e empty
+none-without item text empty (number a v) rest f e = subst NoToken e empty
+none-without item text empty (call a h w ts z) rest f e = subst NoToken e empty
+
+-- a term with the place of its first token
+starts-at : (t : Tree) (k : Tok) (after rest : List Tok) → k ∷ after ≡ spell t rest → place k ≡ start t
+starts-at (name a w) k after rest e = ap place (let same : k ≡ symbol a w = cc in same)
+starts-at (number a v) k after rest e = ap place (let same : k ≡ numeral a v = cc in same)
+starts-at (call a h w ts z) k after rest e = ap place (let same : k ≡ opens a = cc in same)
+
+pub placed : (item : Item) (k : Token) (text after rest : List Tok) (at : ℕ) → text ≡ seen k ∷ after → at ≡ place (seen k) → First item (seen k ∷ after) rest → FirstAt item text at rest
+placed item k text after rest at is here f = record {
+  tree = f .tree;
+  fit = f .fit;
+  spelt = is ∙ f .spelt;
+  starts = here ∙ starts-at (f .tree) (seen k) after rest (f .spelt);
+}

@@ -1,2 +1,4 @@
 pub mod Takes
 pub mod Trees
+pub mod Forms
+pub mod Parsed

@@ -33,6 +33,12 @@ abbrev mutual
   spells none rest = rest
   spells (more t ts) rest = spell t (spells ts rest)
 
+-- The place of a term is that of its first token.
+abbrev pub start : Tree → ℕ
+start (name at bytes) = at
+start (number at value) = at
+start (call at head bytes args end) = at
+
 abbrev pub OneNumeral : Trees → Type 0
 OneNumeral none = ⊥
 OneNumeral (more (name at bytes) ts) = ⊥
@@ -62,6 +68,13 @@ pub record First (item : Item) (text rest : List Tok) : Type 0 where
   pub tree : Tree
   pub fit : Fit item tree
   pub spelt : text ≡ spell tree rest
+
+-- The same, with the item's place.
+pub record FirstAt (item : Item) (text : List Tok) (at : ℕ) (rest : List Tok) : Type 0 where
+  pub tree : Tree
+  pub fit : Fit item tree
+  pub spelt : text ≡ spell tree rest
+  pub starts : at ≡ start tree
 
 abbrev pub NoneFirst : Item → List Tok → Type 0
 NoneFirst item text = (t : Tree) (rest : List Tok) → Fit item t → text ≡ spell t rest → ⊥

@@ -4,6 +4,7 @@ use text::Reader;
 use text::Token;
 ghost use mathlib.Core.List.{[], _∷_};
 ghost use mathlib.Core.Path.{_≡_};
+ghost use Prim.Native.Nat.{ℕ};
 ghost use Rattle.std.specs.Options.{Cases as BySome};
 ghost use Rattle.std.specs.Orderings.{Decides};
 ghost use Rattle.text.specs.Reading.{left};
@@ -87,12 +88,13 @@ pub fn the_keyword<'a>(mut reader: Reader<'a>, word: &[u8]) -> Option<(usize, Re
     }
 }
 
-/// Whether no token is left.
-pub fn ended(mut reader: Reader<'_>) -> bool
-    ensures { λ r. ⌜ Decides r (left (reader .entry) ≡ []) ⌝ }
+/// A closing bracket with nothing after it: its place.
+pub fn closing(reader: Reader<'_>) -> Option<usize>
+    ensures { λ r. ⌜ BySome r ((at : ℕ) → left (reader .entry) ≡ closes at ∷ [] → ⊥) (λ at. left (reader .entry) ≡ closes at ∷ []) ⌝ }
 {
-    match reader.next() {
-        Ok(None) => true,
-        _ => false,
+    let (at, mut after) = close(reader)?;
+    match after.next() {
+        Ok(None) => Some(at),
+        _ => None,
     }
 }

@@ -11,7 +11,7 @@ ghost use mathlib.Core.List.{_∷_};
 ghost use Rattle.std.specs.Options.{Cases as BySome};
 ghost use Rattle.text.specs.Reading.{left};
 ghost use Rattle.text.specs.Tokens.{seen};
-ghost use Rattle.forms.specs.Trees.{First, NoneFirst, Listed, NotListed};
+ghost use Rattle.forms.specs.Trees.{First, FirstAt, NoneFirst, Listed, NotListed};
 ghost use Rattle.forms.specs.declared.item.Item.the-variants.{Term as Terms, Symbol as Symbols, Argument as Arguments};
 
 /// The most items of a list.
@@ -75,4 +75,13 @@ pub fn items<'a>(kind: Item, least: usize, reader: Reader<'a>) -> Option<Reader<
         rest = item(kind, first, after)?;
     }
     None
+}
+
+/// Reads a term: its place, and the reader after it.
+pub fn placed_term<'a>(reader: Reader<'a>) -> Option<(usize, Reader<'a>)>
+    ensures { λ r. ⌜ BySome r (NoneFirst Terms (left (reader .entry))) (λ p. FirstAt Terms (left (reader .entry)) (p .0) (left (p .1))) ⌝ }
+{
+    let (first, after) = next(reader)?;
+    let rest = term(first, after)?;
+    Some((first.place(), rest))
 }
