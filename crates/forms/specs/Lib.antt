@@ -1,4 +1,6 @@
+pub mod Faults
+pub mod Forms
+pub mod Layer
+pub mod Parsed
 pub mod Takes
 pub mod Trees
-pub mod Forms
-pub mod Parsed

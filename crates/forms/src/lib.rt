@@ -1,14 +1,20 @@
 //! The form layer: the grammar of commands.
+mod depth;
+mod fault;
 mod form;
 mod item;
+mod layer;
 mod problem;
 mod proof;
 mod takes;
 mod terms;
 mod word;
 
+pub use fault::FormFault;
+pub use fault::FormFaultDisplay;
 pub use form::ProblemForm;
 pub use form::ProofForm;
 pub use form::Step;
-pub use item::Item;
+pub use layer::problem_form;
+pub use layer::proof_form;
 pub use word::Word;

@@ -4,13 +4,14 @@ use crate::item::Item;
 use crate::takes::closing;
 use crate::takes::numeral;
 use crate::takes::open;
+use crate::takes::same;
 use crate::takes::symbol;
 use crate::terms::items;
 use crate::terms::placed_term;
 use text::Reader;
 ghost use Rattle.text.specs.Reading.{left};
-ghost use Rattle.forms.specs.Forms.{SetLogic, DeclareSort, DeclareFun, Assert, spellSetLogic, spellDeclareSort, spellDeclareFun, spellAssert, FitDeclareFun, FitAssert};
-ghost use Rattle.forms.specs.Parsed.{Parses, keptSetLogic, keptDeclareSort, keptDeclareFun, keptAssert, seenProblem};
+ghost use Rattle.forms.specs.Forms.{spellSetLogic, spellDeclareSort, spellDeclareFun, spellAssert, FitDeclareFun, FitAssert, spellProblem, FitProblem};
+ghost use Rattle.forms.specs.Parsed.{Parses, keptSetLogic, keptDeclareSort, keptDeclareFun, keptAssert, keptProblem, seenProblem};
 
 /// `S)`
 fn set_logic<'a>(body: Reader<'a>) -> Option<ProblemForm<'a>>
@@ -57,4 +58,23 @@ fn assert<'a>(body: Reader<'a>) -> Option<ProblemForm<'a>>
     let (term, rest) = placed_term(body)?;
     closing(rest)?;
     Some(ProblemForm::Assert { term })
+}
+
+/// A command of the problem part.
+pub fn problem<'a>(reader: Reader<'a>) -> Option<ProblemForm<'a>>
+    ensures { λ r. ⌜ Parses FitProblem spellProblem keptProblem seenProblem (left (reader .entry)) r ⌝ }
+{
+    let (_, first) = open(reader)?;
+    let (head, body) = symbol(first)?;
+    if same(head.text, b"assert") {
+        assert(body)
+    } else if same(head.text, b"declare-fun") {
+        declare_fun(body)
+    } else if same(head.text, b"declare-sort") {
+        declare_sort(body)
+    } else if same(head.text, b"set-logic") {
+        set_logic(body)
+    } else {
+        None
+    }
 }

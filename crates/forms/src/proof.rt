@@ -5,6 +5,7 @@ use crate::form::Step;
 use crate::item::Item;
 use crate::takes::closing;
 use crate::takes::open;
+use crate::takes::same;
 use crate::takes::symbol;
 use crate::takes::the_keyword;
 use crate::takes::the_symbol;
@@ -13,11 +14,11 @@ use crate::terms::placed_term;
 use text::Reader;
 ghost use Rattle.std.specs.Options.{Cases as BySome};
 ghost use Rattle.text.specs.Reading.{left};
-ghost use Rattle.forms.specs.Forms.{spellAssume, spellReason, spellStep, spellAnchor, FitAssume, FitReason, FitStep};
-ghost use Rattle.forms.specs.Parsed.{Parses, Grouped, Clause, NoClause, keptAssume, keptReason, keptStep, keptAnchor, seenReason, seenProof};
+ghost use Rattle.forms.specs.Forms.{spellAssume, spellReason, spellStep, spellAnchor, FitAssume, FitReason, FitStep, spellProof, FitProof};
+ghost use Rattle.forms.specs.Parsed.{Parses, Grouped, Clause, NoClause, keptAssume, keptReason, keptStep, keptAnchor, keptProof, seenReason, seenProof};
 
 /// `N t)`
-pub fn assume<'a>(body: Reader<'a>) -> Option<ProofForm<'a>>
+fn assume<'a>(body: Reader<'a>) -> Option<ProofForm<'a>>
     ensures { λ r. ⌜ Parses FitAssume spellAssume keptAssume seenProof (left (body .entry)) r ⌝ }
 {
     let (name, rest) = symbol(body)?;
@@ -27,7 +28,7 @@ pub fn assume<'a>(body: Reader<'a>) -> Option<ProofForm<'a>>
 }
 
 /// `:step N)`
-pub fn anchor<'a>(body: Reader<'a>) -> Option<ProofForm<'a>>
+fn anchor<'a>(body: Reader<'a>) -> Option<ProofForm<'a>>
     ensures { λ r. ⌜ Parses (λ _. Unit {0}) spellAnchor keptAnchor seenProof (left (body .entry)) r ⌝ }
 {
     let (_, named) = the_keyword(body, b"step")?;
@@ -75,7 +76,7 @@ fn reason<'a>(reader: Reader<'a>) -> Option<JustifiedBy<'a>>
 }
 
 /// `N (cl t ..) :rule R :premises (N ..) :args (a ..))`
-pub fn step<'a>(body: Reader<'a>) -> Option<ProofForm<'a>>
+fn step<'a>(body: Reader<'a>) -> Option<ProofForm<'a>>
     ensures { λ r. ⌜ Parses FitStep spellStep keptStep seenProof (left (body .entry)) r ⌝ }
 {
     let (name, after_name) = symbol(body)?;
@@ -92,4 +93,21 @@ pub fn step<'a>(body: Reader<'a>) -> Option<ProofForm<'a>>
         premises,
         args,
     }))
+}
+
+/// A command of the proof part.
+pub fn proof<'a>(reader: Reader<'a>) -> Option<ProofForm<'a>>
+    ensures { λ r. ⌜ Parses FitProof spellProof keptProof seenProof (left (reader .entry)) r ⌝ }
+{
+    let (_, first) = open(reader)?;
+    let (head, body) = symbol(first)?;
+    if same(head.text, b"step") {
+        step(body)
+    } else if same(head.text, b"assume") {
+        assume(body)
+    } else if same(head.text, b"anchor") {
+        anchor(body)
+    } else {
+        None
+    }
 }

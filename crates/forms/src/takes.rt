@@ -12,7 +12,7 @@ ghost use Rattle.text.specs.Tokens.{seen, opens, closes, symbol as symbolic, ke
 ghost use Rattle.forms.specs.Takes.{NoToken, Takes, TakesSymbol, TakesNumeral};
 
 /// Whether two words have the same bytes.
-fn same(a: &[u8], b: &[u8]) -> bool
+pub fn same(a: &[u8], b: &[u8]) -> bool
     ensures { λ r. ⌜ Decides r (now (a .entry) ≡ now (b .entry)) ⌝ }
 {
     a == b
