@@ -3,6 +3,7 @@ use mathlib.Core.Bool.{true, false}
 use mathlib.Core.List.{List, [], _∷_}
 use mathlib.Core.Path.{_≡_, refl, sym, _∙_, ap}
 use Prim.Native.Nat.{ℕ, suc, _+_, _-_, _<_, _≤_}
+use native.Mathlib.Numerals.{one-add}
 use native.Mathlib.Omega.{arith}
 use lib.Dec.{eqb}
 use lib.ListN.{length, getD, take, drop}
@@ -21,7 +22,7 @@ closing-more : (nest : Nest) (text : List ℕ) (i : ℕ) → i < length text →
 unfolding closing
 closing-more nest text i lt deep =
     let open-yet : eqb (nest .depth) 0 ≡ false = ne-eqb _ _ (omega arith) in
-    at-drop-more (closing nest) text i 0 lt ∙ rw open-yet
+    at-drop-more (closing nest) text i 0 lt ∙ rw open-yet (sym (one-add _))
 
 -- a byte opens at most one bracket
 deeper-by-one : (nest : Nest) (b : ℕ) → step nest b .depth ≤ nest .depth + 1

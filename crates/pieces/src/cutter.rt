@@ -10,6 +10,7 @@ ghost use Prim.Native.Nat.{_+_, _<_, _≤_};
 ghost use lib.ListN.{length, getD, drop};
 ghost use Rattle.pieces.specs.Pieces.{isBare, piece, pieces};
 ghost use Rattle.pieces.specs.Cutting.{left, Next};
+ghost use Rattle.pieces.specs.Laws.{Cut};
 
 /// The bytes that go on a bare word.
 pub struct Bare;
@@ -55,7 +56,9 @@ fn piece_end(text: &[u8], at: usize) -> usize
 
 impl<'a> Cutter<'a> {
     pub fn new(text: &'a [u8]) -> Cutter<'a>
-        ensures { λ r. ⌜ left r ≡ pieces (now (text .entry)) ⌝ }
+        ensures all { λ r. ⌜ left r ≡ pieces (now (text .entry)) ⌝ }
+        ensures few { λ r. ⌜ length (left r) ≤ length (now (text .entry)) ⌝ }
+        ensures law { λ _. ⌜ Cut (now (text .entry)) ⌝ }
     {
         Cutter { text, cursor: 0 }
     }
