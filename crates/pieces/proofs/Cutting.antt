@@ -9,7 +9,7 @@ use native.Mathlib.Omega.{arith}
 use lib.ListN.{length, getD, take, drop, length-drop}
 use lib.Seq.{length-take-le}
 use Rattle.std.specs.shelf.Lists.{All, leading}
-use Rattle.std.proofs.shelf.Sums.{leading-le-length}
+use Rattle.std.proofs.shelf.Sums.{leading-le-length, sumBy-cons}
 use Rattle.std.proofs.shelf.Tests.{cond-both}
 use Rattle.std.proofs.shelf.Ways.{tells}
 use Rattle.text.specs.Bytes.{isBlank, isSemicolon, inLine, kind}
@@ -19,6 +19,7 @@ use Rattle.text.specs.declared.bytes.Kind.the-variants.{Blank, Comment, Open, C
 use Rattle.text.proofs.Cuts.{few-parts}
 use Rattle.text.proofs.Laying.{byte-at, rest-at, byte-after, laid}
 use Rattle.pieces.specs.Pieces.{isBare, inside, closing, reaches, piece, pieces}
+use Rattle.pieces.specs.Cutting.{size}
 use Rattle.pieces.specs.Laws.{Bracketed, Word, Shape, bracketed, stray, word, Cut}
 use Rattle.pieces.proofs.Closing.{closing-le, bounded}
 use Rattle.pieces.proofs.Balance.{none-shorter, whole-or-rest}
@@ -86,3 +87,19 @@ cut text = record { laid = laid piece bounded text; each = shapes-from text 0 0 
 pub few-pieces : (text : List ℕ) → length (pieces text) ≤ length text
 unfolding partsFrom
 few-pieces text = few-parts piece 0 0 text
+
+-- what is taken already and the pieces have no more bytes than there are
+size-from : (past at : ℕ) (bs : List ℕ) → past ≤ length bs → past + size (parts piece past at bs) ≤ length bs
+unfolding parts
+size-from past at [] le = omega arith
+size-from (suc past) at (b ∷ bs) le = omega (arith, size-from past (at + 1) bs (omega arith))
+size-from zero at (b ∷ bs) le =
+    let Fits : List Part → Type 0 = λ ps. zero + size ps ≤ suc (length bs) in
+    cond-both (isBlank b) _ _ Fits (λ _. omega (arith, size-from zero (at + 1) bs (omega arith)))
+    (λ _. cond-both (isSemicolon b) _ _ Fits (λ _. omega (arith, size-from (leading inLine bs) (at + 1) bs (leading-le-length inLine bs)))
+    (λ _. let long : length (take (piece b bs) bs) ≡ piece b bs = length-take-le (piece b bs) bs (bounded b bs) in
+    omega (arith, sumBy-cons (λ p. length (p .bytes)) (record { at = at; bytes = b ∷ take (piece b bs) bs }) (parts piece (piece b bs) (at + 1) bs), size-from (piece b bs) (at + 1) bs (bounded b bs))))
+
+pub size-fits : (text : List ℕ) → size (pieces text) ≤ length text
+unfolding partsFrom
+size-fits text = omega (arith, size-from 0 0 text (omega arith))

@@ -9,7 +9,7 @@ ghost use mathlib.Core.Path.{_≡_};
 ghost use Prim.Native.Nat.{_+_, _<_, _≤_};
 ghost use lib.ListN.{length, getD, drop};
 ghost use Rattle.pieces.specs.Pieces.{isBare, piece, pieces};
-ghost use Rattle.pieces.specs.Cutting.{left, Next};
+ghost use Rattle.pieces.specs.Cutting.{left, size, Next};
 ghost use Rattle.pieces.specs.Laws.{Cut};
 
 /// The bytes that go on a bare word.
@@ -58,6 +58,7 @@ impl<'a> Cutter<'a> {
     pub fn new(text: &'a [u8]) -> Cutter<'a>
         ensures all { λ r. ⌜ left r ≡ pieces (now (text .entry)) ⌝ }
         ensures few { λ r. ⌜ length (left r) ≤ length (now (text .entry)) ⌝ }
+        ensures fits { λ r. ⌜ size (left r) ≤ length (now (text .entry)) ⌝ }
         ensures law { λ _. ⌜ Cut (now (text .entry)) ⌝ }
     {
         Cutter { text, cursor: 0 }

@@ -2,6 +2,8 @@
 mod cutter;
 mod nest;
 mod position;
+#[cfg(test)]
+mod tests;
 
 pub use cutter::Cutter;
 pub use cutter::Piece;
