@@ -1,5 +1,5 @@
 -- Where brackets close, byte by byte.
-use mathlib.Core.Bool.{true, false}
+use mathlib.Core.Bool.{Bool, true, false}
 use mathlib.Core.List.{List, [], _∷_}
 use mathlib.Core.Path.{_≡_, refl, sym, _∙_, ap}
 use Prim.Native.Nat.{ℕ, suc, _+_, _-_, _<_, _≤_}
@@ -15,47 +15,48 @@ use Rattle.std.proofs.shelf.Ways.{tells}
 use Rattle.text.specs.Bytes.{kind}
 use Rattle.text.specs.declared.bytes.Kind.{Kind}
 use Rattle.text.specs.declared.bytes.Kind.the-variants.{Blank, Comment, Open, Close, Colon, Digit, Initial, Other}
-use Rattle.pieces.specs.declared.nest.Nest.{Nest}
-use Rattle.pieces.specs.Pieces.{isBare, inside, step, closing, reaches, piece}
+use Rattle.pieces.specs.Pieces.{isBare, commentBehind, depthBehind, closing, enclosed, reaches, piece}
 
-closing-more : (nest : Nest) (text : List ℕ) (i : ℕ) → i < length text → 0 < nest .depth → closing nest (drop i text) ≡ 1 + closing (step nest (getD text i 0)) (drop (i + 1) text)
+closing-more : (d : ℕ) (c : Bool) (text : List ℕ) (i : ℕ) → i < length text → 0 < d → closing d c (drop i text) ≡ 1 + closing (depthBehind d c (getD text i 0)) (commentBehind c (getD text i 0)) (drop (i + 1) text)
 unfolding closing
-closing-more nest text i lt deep =
-    let open-yet : eqb (nest .depth) 0 ≡ false = ne-eqb _ _ (omega arith) in
-    at-drop-more (closing nest) text i 0 lt ∙ rw open-yet (sym (one-add _))
+closing-more d c text i lt deep =
+    let open-yet : eqb d 0 ≡ false = ne-eqb _ _ (omega arith) in
+    at-drop-more (closing d c) text i 0 lt ∙ rw open-yet (sym (one-add _))
 
 -- a byte opens at most one bracket
-deeper-by-one : (nest : Nest) (b : ℕ) → step nest b .depth ≤ nest .depth + 1
-deeper-by-one nest b = grind (arith, tells)
+deeper-by-one : (d : ℕ) (c : Bool) (b : ℕ) → depthBehind d c b ≤ d + 1
+deeper-by-one d c b = grind (arith, tells)
 
 -- the loop's step
-pub closing-on : (nest : Nest) (text : List ℕ) (i all : ℕ) → i < length text → 0 < nest .depth → nest .depth ≤ i → i + closing nest (drop i text) ≡ all → (after : Nest) → after ≡ step nest (getD text i 0) → (after .depth ≤ i + 1) × (i + 1 ≤ length text) × (i + 1 + closing after (drop (i + 1) text) ≡ all)
-closing-on nest text i all lt deep low inv after e =
-    let depth : after .depth ≡ step nest (getD text i 0) .depth = ap (λ n. n .depth) e in
-    let more : closing nest (drop i text) ≡ 1 + closing after (drop (i + 1) text) =
-    closing-more nest text i lt deep ∙ ap (λ n. 1 + closing n (drop (i + 1) text)) (sym e)
+pub closing-on : (d : ℕ) (c : Bool) (text : List ℕ) (i all : ℕ) → i < length text → 0 < d → d ≤ i → i + closing d c (drop i text) ≡ all → (d′ : ℕ) → d′ ≡ depthBehind d c (getD text i 0) → (c′ : Bool) → c′ ≡ commentBehind c (getD text i 0) → (d′ ≤ i + 1) × (i + 1 ≤ length text) × (i + 1 + closing d′ c′ (drop (i + 1) text) ≡ all)
+closing-on d c text i all lt deep low inv d′ e c′ f =
+    let more : closing d c (drop i text) ≡ 1 + closing d′ c′ (drop (i + 1) text) =
+    closing-more d c text i lt deep ∙ sym (λ k. 1 + closing (e k) (f k) (drop (i + 1) text))
     in
-    (omega (arith, deeper-by-one nest (getD text i 0)), omega arith, omega arith)
+    (omega (arith, deeper-by-one d c (getD text i 0)), omega arith, omega arith)
 
-pub closing-none : (nest : Nest) (text : List ℕ) (i : ℕ) → length text ≤ i → closing nest (drop i text) ≡ 0
+pub closing-none : (d : ℕ) (c : Bool) (text : List ℕ) (i : ℕ) → length text ≤ i → closing d c (drop i text) ≡ 0
 unfolding closing
-closing-none nest text i le = at-drop-all (closing nest) text i le
+closing-none d c text i le = at-drop-all (closing d c) text i le
 
-pub closing-done : (nest : Nest) (bs : List ℕ) → nest .depth ≡ 0 → closing nest bs ≡ 0
+pub closing-done : (d : ℕ) (c : Bool) (bs : List ℕ) → d ≡ 0 → closing d c bs ≡ 0
 unfolding closing
-closing-done nest [] e = refl
-closing-done nest (b ∷ bs) e = rw e
+closing-done d c [] e = refl
+closing-done d c (b ∷ bs) e = rw e
 
-pub closing-le : (nest : Nest) (bs : List ℕ) → closing nest bs ≤ length bs
+closing-le : (d : ℕ) (c : Bool) (bs : List ℕ) → closing d c bs ≤ length bs
 unfolding closing
-closing-le nest [] = omega arith
-closing-le nest (b ∷ bs) =
-    cond-both (eqb (nest .depth) 0) _ _ (λ n. n ≤ suc (length bs)) (λ _. omega arith) (λ _. omega (arith, closing-le (step nest b) bs))
+closing-le d c [] = omega arith
+closing-le d c (b ∷ bs) =
+    cond-both (eqb d 0) _ _ (λ n. n ≤ suc (length bs)) (λ _. omega arith) (λ _. omega (arith, closing-le (depthBehind d c b) (commentBehind c b) bs))
+
+pub enclosed-le : (bs : List ℕ) → enclosed bs ≤ length bs
+enclosed-le bs = closing-le 1 false bs
 
 reaches-le : (k : Kind) (bs : List ℕ) → reaches k bs ≤ length bs
 reaches-le Blank bs = omega arith
 reaches-le Comment bs = omega arith
-reaches-le Open bs = closing-le inside bs
+reaches-le Open bs = enclosed-le bs
 reaches-le Close bs = omega arith
 reaches-le Colon bs = leading-le-length isBare bs
 reaches-le Digit bs = leading-le-length isBare bs

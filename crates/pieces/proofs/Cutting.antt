@@ -18,10 +18,10 @@ use Rattle.text.specs.declared.bytes.Kind.{Kind}
 use Rattle.text.specs.declared.bytes.Kind.the-variants.{Blank, Comment, Open, Close, Colon, Digit, Initial, Other}
 use Rattle.text.proofs.Cuts.{few-parts}
 use Rattle.text.proofs.Laying.{byte-at, rest-at, byte-after, laid}
-use Rattle.pieces.specs.Pieces.{isBare, inside, closing, reaches, piece, pieces}
+use Rattle.pieces.specs.Pieces.{isBare, enclosed, reaches, piece, pieces}
 use Rattle.pieces.specs.Cutting.{size}
 use Rattle.pieces.specs.Laws.{Bracketed, Word, Shape, bracketed, stray, word, Cut}
-use Rattle.pieces.proofs.Closing.{closing-le, bounded}
+use Rattle.pieces.proofs.Closing.{enclosed-le, bounded}
 use Rattle.pieces.proofs.Balance.{none-shorter, whole-or-rest}
 
 -- a longest run passes, and what stands after it does not
@@ -40,9 +40,9 @@ module _ (text : List ℕ) (at b : ℕ) (bs : List ℕ) (here : drop at text ≡
   whole : at + 1 + length bs ≡ length text
   whole = omega (arith, length-drop at text, ap length here)
 
-  bracket-shape : b ≡ 40 → Shape text (record { at = at; bytes = b ∷ take (closing inside bs) bs })
+  bracket-shape : b ≡ 40 → Shape text (record { at = at; bytes = b ∷ take (enclosed bs) bs })
   bracket-shape e =
-      let long : length (take (closing inside bs) bs) ≡ closing inside bs = length-take-le _ bs (closing-le inside bs) in
+      let long : length (take (enclosed bs) bs) ≡ enclosed bs = length-take-le _ bs (enclosed-le bs) in
       bracketed (record {
         first = e;
         shortest = rw e (none-shorter bs);

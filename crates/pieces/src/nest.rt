@@ -2,41 +2,32 @@
 ghost use mathlib.Core.Path.{_≡_};
 ghost use Prim.Native.Nat.{_+_, _^_, _<_, _≤_};
 ghost use lib.ListN.{length, drop};
-ghost use Rattle.pieces.specs.Pieces.{inside, step, closing};
+ghost use Rattle.pieces.specs.Pieces.{commentBehind, depthBehind, enclosed};
 
-/// How many brackets are open at a place of a text, and whether it is in a comment.
-#[derive(Clone, Copy, Debug)]
-pub struct Nest {
-    depth: usize,
-    comment: bool,
+/// Whether a comment goes on behind the byte `b`.
+fn comment_behind(comment: bool, b: u8) -> bool
+    ensures { λ r. ⌜ r ≡ commentBehind comment b ⌝ }
+{
+    match b as char {
+        '\n' | '\r' => false,
+        ';' => true,
+        _ => comment,
+    }
 }
 
-/// The nest behind the byte `b`, which stands in brackets.
-fn behind(nest: Nest, b: u8) -> Nest
-    requires within { ⌜ 0 < nest .depth ⌝ }
-    requires room { ⌜ nest .depth + 1 < 2 ^ 64 ⌝ }
-    ensures { λ r. ⌜ r ≡ step nest b ⌝ }
+/// How many brackets are open behind the byte `b`, which stands in brackets.
+fn depth_behind(depth: usize, comment: bool, b: u8) -> usize
+    requires within { ⌜ 0 < depth ⌝ }
+    requires room { ⌜ depth + 1 < 2 ^ 64 ⌝ }
+    ensures { λ r. ⌜ r ≡ depthBehind depth comment b ⌝ }
 {
-    let Nest { depth, comment } = nest;
+    if comment {
+        return depth;
+    }
     match b as char {
-        '\n' | '\r' => Nest {
-            depth,
-            comment: false,
-        },
-        _ if comment => nest,
-        ';' => Nest {
-            depth,
-            comment: true,
-        },
-        '(' => Nest {
-            depth: depth + 1,
-            comment,
-        },
-        ')' => Nest {
-            depth: depth - 1,
-            comment,
-        },
-        _ => nest,
+        '(' => depth + 1,
+        ')' => depth - 1,
+        _ => depth,
     }
 }
 
@@ -45,16 +36,15 @@ fn behind(nest: Nest, b: u8) -> Nest
 pub fn bracket_end(text: &[u8], from: usize) -> usize
     requires before { ⌜ 0 < from ⌝ }
     requires within { ⌜ from ≤ length (now text) ⌝ }
-    ensures value { λ r. ⌜ r ≡ from + closing inside (drop from (now (text .entry))) ⌝ }
+    ensures value { λ r. ⌜ r ≡ from + enclosed (drop from (now (text .entry))) ⌝ }
     ensures within { λ r. ⌜ r ≤ length (now (text .entry)) ⌝ }
 {
-    let mut nest = Nest {
-        depth: 1,
-        comment: false,
-    };
+    let mut depth = 1;
+    let mut comment = false;
     let mut end = from;
-    while end < text.len() && nest.depth > 0 {
-        nest = behind(nest, text[end]);
+    while end < text.len() && depth > 0 {
+        depth = depth_behind(depth, comment, text[end]);
+        comment = comment_behind(comment, text[end]);
         end += 1;
     }
     end
