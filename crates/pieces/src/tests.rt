@@ -38,10 +38,38 @@ fn empty() -> Result<(), Fail> {
     check(cutter.next().is_none())
 }
 
+/// Whether the place `at` of `text` has this line and column, counted from the start.
+fn stands(text: &[u8], at: usize, line: usize, column: usize) -> bool {
+    let place = line_column(text, Position::start(), at);
+    place.line == line && place.column == column
+}
+
 #[test]
 fn places() -> Result<(), Fail> {
-    check_eq(line_column(b"ab\ncd", 4), Position { line: 2, column: 2 })?;
-    check_eq(line_column(b"ab\ncd", 2), Position { line: 1, column: 3 })?;
-    check_eq(line_column(b"ab\n", 9), Position { line: 2, column: 1 })?;
-    check_eq(line_column(b"", 0), Position { line: 1, column: 1 })
+    check(stands(b"ab\ncd", 4, 2, 2))?;
+    check(stands(b"ab\ncd", 2, 1, 3))?;
+    check(stands(b"ab\n", 9, 2, 1))?;
+    check(stands(b"", 0, 1, 1))
+}
+
+#[test]
+fn places_from_others() -> Result<(), Fail> {
+    let text: &[u8] = b"ab\ncd\ne";
+    let near = line_column(text, Position::start(), 4);
+    check_eq(
+        line_column(text, near, 6),
+        Position {
+            at: 6,
+            line: 3,
+            column: 1,
+        },
+    )?;
+    check_eq(
+        line_column(text, near, 1),
+        Position {
+            at: 1,
+            line: 1,
+            column: 2,
+        },
+    )
 }

@@ -1,6 +1,6 @@
 //! One file: its commands through the layers, and what came of them.
 use pieces::Cutter;
-use pieces::Piece;
+use pieces::Position;
 use pieces::line_column;
 use std::fmt;
 use std::io;
@@ -30,20 +30,17 @@ pub impl fmt::Display for Report as ReportDisplay {
     }
 }
 
-/// Prints the refusal of `piece`, the command number `command` of the file `name`.
+/// Prints the refusal of the command number `command` of the file `name`, at fault in `place`.
 fn print_refusal(
     rt: &LibcRuntime,
     name: &str,
-    text: &[u8],
-    piece: Piece<'_>,
+    place: Position,
     command: usize,
     fault: TokenFault,
 ) -> io::Result<()> {
-    let byte = fault.place();
+    let Position { line, column, .. } = place;
     let number = fault.number();
-    let place = line_column(text, piece.at.saturating_add(byte));
-    let line = place.line;
-    let column = place.column;
+    let byte = fault.place();
     println!(
         rt,
         "{name}:{line}:{column}: refused {number}: {fault}, command {command}, byte {byte}, layer tokens"
@@ -59,6 +56,7 @@ pub fn check_file(rt: &LibcRuntime, name: &str, text: &[u8]) -> io::Result<Repor
         tokens: 0,
         refused: 0,
     };
+    let mut place = Position::start();
     let mut cutter = Cutter::new(text);
     while let Some(piece) = cutter.next() {
         match scan(piece.text) {
@@ -67,7 +65,8 @@ pub fn check_file(rt: &LibcRuntime, name: &str, text: &[u8]) -> io::Result<Repor
                 report.tokens += tokens;
             }
             Err(fault) => {
-                print_refusal(rt, name, text, piece, report.commands + 1, fault)?;
+                place = line_column(text, place, piece.at.saturating_add(fault.place()));
+                print_refusal(rt, name, place, report.commands + 1, fault)?;
                 report.refused += 1;
             }
         }

@@ -7,7 +7,6 @@ use Rattle.pieces.proofs.position.line_column.Given as given
 abbrev pub Inv-loop-i : given.InvT-loop-i
 Inv-loop-i l =
     (l .i ≤ l .at)
-    × (l .i ≤ length (l .text))
     × (l .line ≡ lineAfter (take (l .i) (l .text)))
     × (l .column ≡ columnAfter (take (l .i) (l .text)))
     × (l .line ≤ l .i + 1)
