@@ -5,6 +5,7 @@ use mathlib.Core.Logic.{_⊎_, inl, inr, ⊎-elim}
 use mathlib.Core.Path.{_≡_, refl, sym, _∙_, ap, subst}
 use Prim.Native.Nat.{ℕ, zero, suc, _+_, _-_, _<_, _≤_}
 use native.Mathlib.Nat.{add-zero}
+use native.Mathlib.Numerals.{one-add}
 use native.Mathlib.Omega.{arith}
 use lib.ListN.{length, getD, take, drop, length-drop}
 use lib.Seq.{getD-drop, length-take-le}
@@ -27,9 +28,20 @@ leading-passes p [] k lt = absurd (omega arith)
 leading-passes p (x ∷ xs) zero lt = below-cond (p x) (1 + leading p xs) 0 lt .0
 leading-passes p (x ∷ xs) (suc k) lt = leading-passes p xs k (omega (arith, below-cond (p x) (1 + leading p xs) (suc k) lt .1))
 
-not-true : (v : Bool) → not v ≡ true → v ≡ false
+-- and the one after them does not, nor does the default where they are all
+pub leading-stops : (p : ℕ → Bool) (xs : List ℕ) → (length xs ≤ leading p xs → p 0 ≡ false) → p (getD xs (leading p xs) 0) ≡ false
+leading-stops p [] end = end (omega arith)
+leading-stops p (x ∷ xs) end =
+    cond-both (p x) (1 + leading p xs) 0 (λ n. (suc (length xs) ≤ n → p 0 ≡ false) → p (getD (x ∷ xs) n 0) ≡ false)
+    (λ _ last. rw one-add (leading-stops p xs (λ le. last (omega arith)))) (λ e _. e) end
+
+pub not-true : (v : Bool) → not v ≡ true → v ≡ false
 not-true true e = sym e
 not-true false e = refl
+
+pub not-false : (v : Bool) → not v ≡ false → v ≡ true
+not-false true e = refl
+not-false false e = sym e
 
 joined-gaps : (text : List ℕ) (i j k : ℕ) → Gap text i j → Gap text j k → Gap text i k
 joined-gaps text i j k g h = record {

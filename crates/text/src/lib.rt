@@ -2,6 +2,8 @@
 mod bytes;
 mod reader;
 mod spans;
+#[cfg(test)]
+mod tests;
 mod token;
 
 pub use bytes::Kind;

@@ -12,7 +12,8 @@ ghost use mathlib.Core.Path.{_≡_};
 ghost use Prim.Native.Nat.{_+_, _<_, _≤_};
 ghost use lib.ListN.{length, getD, drop};
 ghost use Rattle.text.specs.Tokens.{lexeme, tokens, tokensFrom};
-ghost use Rattle.text.specs.Reading.{left, Next, Scans};
+ghost use Rattle.text.specs.Reading.{left, Next, Scans, Leftmost};
+ghost use Rattle.text.specs.Layout.{Lexed};
 
 /// Reads the tokens of a command one by one.
 #[derive(Clone, Copy, Debug)]
@@ -65,7 +66,9 @@ impl<'a> Reader<'a> {
 
 /// Runs the token layer over a whole command: how many tokens it has, or its leftmost fault.
 pub fn scan(text: &[u8]) -> Result<usize, TokenFault>
-    ensures { λ r. ⌜ Scans (tokens (now (text .entry))) r ⌝ }
+    ensures value { λ r. ⌜ Scans (tokens (now (text .entry))) r ⌝ }
+    ensures leftmost { λ r. ⌜ Leftmost (tokens (now (text .entry))) r ⌝ }
+    ensures lexed { λ _. ⌜ Lexed (now (text .entry)) ⌝ }
 {
     let mut reader = Reader::new(text);
     let mut count = 0;

@@ -7,7 +7,7 @@ ghost use mathlib.Core.Path.{_≡_};
 ghost use Prim.Native.Nat.{_<_};
 ghost use lib.ListN.{length};
 ghost use Rattle.std.specs.declared.option.Option.the-variants.{Some, None};
-ghost use Rattle.text.specs.Tokens.{numberOf, placeOf, isNumeral, valueOn, tokenAt, told};
+ghost use Rattle.text.specs.Tokens.{numberOf, placeOf, place, isNumeral, valueOn, tokenAt, seen, told};
 
 /// The longest token, in bytes, with a keyword's colon.
 const LONGEST: usize = 64;
@@ -24,6 +24,21 @@ pub enum Token<'a> {
     Symbol { at: usize, text: &'a [u8] },
     Keyword { at: usize, text: &'a [u8] },
     Numeral { at: usize, value: u32 },
+}
+
+impl Token<'_> {
+    /// The place of the token's first byte.
+    pub fn place(self) -> usize
+        ensures { λ r. ⌜ r ≡ place (seen (self .entry)) ⌝ }
+    {
+        match self {
+            Token::Open { at } => at,
+            Token::Close { at } => at,
+            Token::Symbol { at, .. } => at,
+            Token::Keyword { at, .. } => at,
+            Token::Numeral { at, .. } => at,
+        }
+    }
 }
 
 /// What can be wrong with a command's bytes, and where.
