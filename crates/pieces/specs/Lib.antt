@@ -1,0 +1,4 @@
+pub mod Pieces
+pub mod Cutting
+pub mod Positions
+pub mod Laws

@@ -1,0 +1,81 @@
+//! `proofcheck PROBLEM PROOF`: checks a problem and the proof that no value meets its claims.
+mod failure;
+mod report;
+
+use crate::failure::Failure;
+use crate::failure::FailureFromError;
+use crate::report::Report;
+use crate::report::ReportDisplay;
+use crate::report::check_file;
+use std::env;
+use std::fs;
+
+const USAGE: &str = "usage: proofcheck PROBLEM PROOF";
+
+const HELP: &str = "usage: proofcheck PROBLEM PROOF
+
+Checks the problem in the file PROBLEM and its proof in the file PROOF, command by command.
+Each command that is refused has a line of its own,
+
+    FILE:LINE:COLUMN: refused NUMBER: WORDS, command N, byte B, layer LAYER
+
+where byte B of the command's text, counted from 0, is the first at fault, and N is one more
+than the commands of the file that were accepted before it. A line for each file and a last
+line sum up. The status is 0 where no command is refused, and 1 otherwise.";
+
+/// The bytes of the file `name`.
+fn read(rt: &LibcRuntime, name: &str) -> Result<Vec<u8>, Failure> {
+    match fs::read(rt, name) {
+        Ok(bytes) => Ok(bytes),
+        Err(error) => {
+            eprintln!(rt, "proofcheck: cannot read {name}: {error}")?;
+            Err(Failure::Unreadable)
+        }
+    }
+}
+
+/// Checks the file `name`, and prints a line that sums it up.
+fn check(rt: &LibcRuntime, name: &str, text: &[u8]) -> Result<Report, Failure> {
+    let report = check_file(rt, name, text)?;
+    println!(rt, "{name}: {report}")?;
+    Ok(report)
+}
+
+/// Reads both files, checks them, and prints what came of it.
+fn run(rt: &LibcRuntime, problem: &str, proof: &str) -> Result<(), Failure> {
+    let claims = read(rt, problem)?;
+    let steps = read(rt, proof)?;
+    let first = check(rt, problem, &claims)?;
+    let second = check(rt, proof, &steps)?;
+    let refused = first.refused.saturating_add(second.refused);
+    if refused > 0 {
+        println!(rt, "commands refused: {refused}")?;
+        return Err(Failure::Refused);
+    }
+    println!(rt, "all commands have passed the token layer")?;
+    Ok(())
+}
+
+/// Says on the standard error how the program is used.
+fn misused(rt: &LibcRuntime) -> Result<(), Failure> {
+    eprintln!(rt, "proofcheck: two files are wanted\n{USAGE}")?;
+    Err(Failure::Usage)
+}
+
+fn main(rt: LibcRuntime) -> Result<(), Failure> {
+    let mut args = env::args(&rt)?.skip(1);
+    let Some(problem) = args.next() else {
+        return misused(&rt);
+    };
+    if problem.as_str() == "--help" {
+        println!(rt, "{HELP}")?;
+        return Ok(());
+    }
+    let Some(proof) = args.next() else {
+        return misused(&rt);
+    };
+    if args.next().is_some() {
+        return misused(&rt);
+    }
+    run(&rt, problem.as_str(), proof.as_str())
+}
