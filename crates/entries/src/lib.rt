@@ -1,0 +1,19 @@
+//! What the lists of a sheet hold, and the one search through them.
+mod entry;
+pub mod limits;
+mod make;
+mod search;
+
+pub use entry::Clause;
+pub use entry::Head;
+pub use entry::Literal;
+pub use entry::Name;
+pub use entry::Sort;
+pub use entry::Symbol;
+pub use entry::Term;
+pub use search::Entry;
+pub use search::LiteralEntry;
+pub use search::NameEntry;
+pub use search::SymbolEntry;
+pub use search::TermEntry;
+pub use search::position;
