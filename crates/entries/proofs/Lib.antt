@@ -1,3 +1,4 @@
 pub mod Fronts
 pub mod Firsts
 pub mod Alike
+pub mod Filings

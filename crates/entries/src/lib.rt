@@ -1,5 +1,7 @@
 //! What the lists of a sheet hold, and the one search through them.
+mod clause;
 mod entry;
+mod filing;
 pub mod limits;
 mod make;
 mod search;
@@ -11,6 +13,7 @@ pub use entry::Name;
 pub use entry::Sort;
 pub use entry::Symbol;
 pub use entry::Term;
+pub use filing::intern;
 pub use search::Entry;
 pub use search::LiteralEntry;
 pub use search::NameEntry;
