@@ -15,7 +15,7 @@ use Rattle.entries.specs.declared.entry.Literal.{Literal}
 use Rattle.entries.specs.declared.entry.Sort.{Sort}
 use Rattle.entries.specs.declared.entry.Sort.the-variants as sort
 use Rattle.entries.specs.declared.entry.Term.{Term}
-use Rattle.entries.specs.Equality.{kindOf, numberOf, sameHead, sameSort, sameTerm, sameSign, sameLiteral}
+use Rattle.entries.specs.Equality.{kindOf, numberOf, sameKind, sameHead, sameSort, sameTerm, sameSign, sameLiteral}
 use Rattle.entries.specs.Views.{TermView, termOf}
 
 -- two terms with one head and one sort are equal where their arguments are
@@ -26,7 +26,7 @@ terms-decide x y r h s d =
 
 -- ---- heads
 -- the head with a place in the list of heads and a number
-headAt : ℕ → ℕ → Head
+abbrev pub headAt : ℕ → ℕ → Head
 headAt k n =
     getD
     (head.True ∷ head.False ∷ head.Not ∷ head.And ∷ head.Or ∷ head.Implies ∷ head.Equal ∷ head.Le ∷ head.Lt ∷ head.Ge ∷ head.Gt ∷ head.Plus ∷ head.Minus ∷ head.Times
@@ -34,7 +34,6 @@ headAt k n =
     k head.True
 
 head-at : (h : Head) → h ≡ headAt (kindOf h) (numberOf h)
-unfolding headAt
 head-at head.True = refl
 head-at head.False = refl
 head-at head.Not = refl
@@ -51,6 +50,13 @@ head-at head.Minus = refl
 head-at head.Times = refl
 head-at (head.Numeral n) = refl
 head-at (head.Declared f) = refl
+
+-- a head of a kind, by the number that it bears
+pub head-of-kind : (h k : Head) → sameKind h k ≡ true → h ≡ headAt (kindOf k) (numberOf h)
+head-of-kind h k t = head-at h ∙ ap (λ i. headAt i (numberOf h)) (eqb-true (kindOf h) (kindOf k) t)
+
+pub kind-of-head : (h k : Head) → h ≡ k → sameKind h k ≡ true
+kind-of-head h k e = eq-eqb (kindOf h) (kindOf k) (ap kindOf e)
 
 pub sameHead-decides : (h k : Head) → Decides (sameHead h k) (h ≡ k)
 sameHead-decides h k = (

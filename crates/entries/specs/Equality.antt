@@ -49,8 +49,12 @@ numberOf head.Times = 0
 numberOf (head.Numeral n) = n
 numberOf (head.Declared f) = f
 
+-- Heads are of one kind where they differ at most in the numbers that they bear.
+abbrev pub sameKind : Head → Head → Bool
+sameKind h k = eqb (kindOf h) (kindOf k)
+
 abbrev pub sameHead : Head → Head → Bool
-sameHead h k = eqb (kindOf h) (kindOf k) && eqb (numberOf h) (numberOf k)
+sameHead h k = sameKind h k && eqb (numberOf h) (numberOf k)
 
 abbrev pub sameSort : Sort → Sort → Bool
 sameSort sort.Bool sort.Bool = true

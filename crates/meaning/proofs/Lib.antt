@@ -1,0 +1,5 @@
+pub mod Built
+pub mod Sorted
+pub mod Values
+pub mod Propers
+pub mod Literals
