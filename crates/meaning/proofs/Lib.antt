@@ -3,3 +3,5 @@ pub mod Sorted
 pub mod Values
 pub mod Propers
 pub mod Literals
+pub mod Clauses
+pub mod Strips
