@@ -2,7 +2,7 @@
 use mathlib.Core.Path.{_≡_, refl, sym, ap, _∙_, subst}
 use mathlib.Core.Bool.{Bool, true, false, cond}
 use mathlib.Core.List.{List, [], _∷_, _++_, map}
-use mathlib.Core.Logic.{inl, inr}
+use mathlib.Core.Logic.{_⊎_, inl, inr}
 use Prim.Native.Nat.{ℕ, _+_, _<_, _≤_}
 use native.Mathlib.Omega.{arith}
 use lib.Dec.{ltb}
@@ -89,6 +89,17 @@ module _ (ts : List Term) (n most : ℕ) (t : Term) where
   stands-end fit h =
       subst (λ us. First (λ u. u ≡ termOf t) us (Some n)) (sym (termsOf-push ts n t fit))
       (first-pushed (termsOf ts n) (termOf t) n (length-termsOf ts n (omega arith)) (first-viewed termOf t (termOf t) (take n ts) None h))
+
+-- the list stays as it is, or has the term at its end
+filed-cases : (most : ℕ) (ts : List TermView) (t : TermView) (r : Option ℕ) → (filedAt most ts t r .1 ≡ ts) ⊎ (filedAt most ts t r .1 ≡ ts ++ t ∷ [])
+filed-cases most ts t (Some i) = inl refl
+filed-cases most ts t None = elim (cases-bool (ltb (length ts) most)) [
+  | inl e ↦ inr (ap (λ (p : Option ℕ × List TermView). p .1) (cond-true (ltb (length ts) most) (Some (length ts), ts ++ t ∷ []) (None, ts) e))
+  | inr e ↦ inl (ap (λ (p : Option ℕ × List TermView). p .1) (cond-false (ltb (length ts) most) (Some (length ts), ts ++ t ∷ []) (None, ts) e))
+]
+
+pub file-cases : (most : ℕ) (ts : List TermView) (t : TermView) → (file most ts t .1 ≡ ts) ⊎ (file most ts t .1 ≡ ts ++ t ∷ [])
+file-cases most ts t = filed-cases most ts t (firstPlace (λ u. sameTerm u t) ts)
 
 -- ---- a literal is added to a clause
 pub holds-decides : (c : List Literal) (l : Literal) → Decides (holdsLiteral c l) ((k : ℕ) × (k < length c) × At (λ m. m ≡ l) c k)

@@ -34,7 +34,7 @@ pub enum Head {
 }
 
 /// A stored word.
-#[derive(Clone, Copy, Debug)]
+#[derive(Clone, Copy)]
 pub struct Symbol {
     pub(crate) len: u8,
     pub(crate) bytes: [u8; LONGEST],
@@ -42,7 +42,7 @@ pub struct Symbol {
 }
 
 /// A declared function symbol: its word, the sorts that it takes and the sort that it gives.
-#[derive(Clone, Copy, Debug)]
+#[derive(Clone, Copy)]
 pub struct Name {
     pub word: Symbol,
     pub(crate) takes: [Sort; MOST_ARGUMENTS],
@@ -52,7 +52,7 @@ pub struct Name {
 }
 
 /// A term: its head, its sort, and its arguments by their numbers.
-#[derive(Clone, Copy, Debug)]
+#[derive(Clone, Copy)]
 pub struct Term {
     pub head: Head,
     pub sort: Sort,
@@ -69,7 +69,7 @@ pub struct Literal {
 }
 
 /// A clause: literals in written order, later repeats dropped.
-#[derive(Clone, Copy, Debug)]
+#[derive(Clone, Copy)]
 pub struct Clause {
     pub(crate) len: u8,
     pub(crate) literals: [Literal; MOST_LITERALS],

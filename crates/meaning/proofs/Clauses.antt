@@ -6,7 +6,6 @@ use mathlib.Core.Logic.{inl, inr}
 use Prim.Native.Nat.{ℕ, zero, suc, _+_, _<_, _≤_}
 use native.Mathlib.Omega.{arith}
 use lib.ListN.{length, getD, take}
-use Rattle.std.specs.Places.{At}
 use Rattle.std.specs.shelf.Lists.{All, folded}
 use Rattle.std.proofs.shelf.Elements.{all-push, all-weaker}
 use Rattle.std.proofs.shelf.Lists.{length-map, length-push, take-more, take-all, map-push}
@@ -19,7 +18,7 @@ use Rattle.entries.proofs.Filings.{holds-decides}
 use Rattle.meaning.specs.Proper.{Proper, Formed}
 use Rattle.meaning.specs.Truth.{literalOf, literalTrue, clauseTrue}
 use Rattle.meaning.specs.Values.{Reading, some, isTrue}
-use Rattle.meaning.proofs.Literals.{literal-true}
+use Rattle.meaning.proofs.Literals.{literal-true, literal-true-kept}
 use Rattle.meaning.proofs.Values.{some-map}
 
 or-assoc : (a b c : Bool) → ((a || b) || c) ≡ (a || (b || c))
@@ -72,6 +71,12 @@ pub clause-true : (ρ : Reading) (names : List NameView) (terms : List TermView)
 clause-true ρ names terms ok ns w =
     some-clause (literalTrue ρ terms) (map (literalOf terms) ns) ∙ some-map (literalOf terms) (literalTrue ρ terms) ns
     ∙ some-same (λ n. literalTrue ρ terms (literalOf terms n)) (isTrue ρ terms) (λ n. n < length terms) (literal-true ρ names terms ok) ns w
+
+-- more terms change no clause's truth
+pub clause-true-kept : (ρ : Reading) (terms more : List TermView) (c : List Literal) → All (λ (l : Literal). l .term < length terms) c →
+    clauseTrue ρ (terms ++ more) c ≡ clauseTrue ρ terms c
+clause-true-kept ρ terms more c w =
+    some-same (literalTrue ρ (terms ++ more)) (literalTrue ρ terms) (λ (l : Literal). l .term < length terms) (literal-true-kept ρ terms more) c w
 
 -- ---- one more literal
 pub length-with : (c : List Literal) (l : Literal) → length (withOne c l) ≤ length c + 1

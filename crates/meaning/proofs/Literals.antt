@@ -1,23 +1,21 @@
 -- The literals of a proper list, and where literals and clauses are true.
-use mathlib.Core.Path.{_≡_, refl, sym, ap, _∙_, subst}
-use mathlib.Core.List.{List, [], _∷_, _++_, map}
-use mathlib.Core.Bool.{Bool, true, false, cond, not, _||_}
+use mathlib.Core.Path.{_≡_, refl, sym, ap, _∙_}
+use mathlib.Core.List.{List, _++_, map}
+use mathlib.Core.Bool.{Bool, true, false, cond, not}
 use mathlib.Core.Logic.{inl, inr}
-use Prim.Native.Nat.{ℕ, zero, suc, _+_, _<_, _≤_}
+use Prim.Native.Nat.{ℕ, zero, suc, _<_, _≤_}
 use native.Mathlib.Omega.{arith}
 use lib.ListN.{length, getD}
-use Rattle.std.specs.shelf.Lists.{All}
-use Rattle.std.proofs.shelf.Tests.{cases-bool, cond-true, cond-false, and-from, eq-eqb}
-use Rattle.entries.specs.declared.entry.Head.{Head}
+use Rattle.std.proofs.shelf.Tests.{cases-bool, cond-true, cond-false}
 use Rattle.entries.specs.declared.entry.Head.the-variants as head
 use Rattle.entries.specs.declared.entry.Literal.{Literal}
 use Rattle.entries.specs.Clauses.{complementOf}
-use Rattle.entries.specs.Equality.{kindOf, numberOf, sameKind}
+use Rattle.entries.specs.Equality.{sameKind}
 use Rattle.entries.specs.Views.{NameView, TermView}
 use Rattle.entries.proofs.Alike.{head-of-kind}
 use Rattle.meaning.specs.Proper.{termAt, Proper}
-use Rattle.meaning.specs.Truth.{positive, literalOf, literalTrue, clauseTrue, signed}
-use Rattle.meaning.specs.Values.{Reading, some, valueOf, isTrue}
+use Rattle.meaning.specs.Truth.{positive, literalOf, literalTrue, signed}
+use Rattle.meaning.specs.Values.{Reading, holds, isTrue}
 use Rattle.meaning.proofs.Built.{built-kept, built-at}
 use Rattle.meaning.proofs.Values.{values-kept, not-args, not-true-of}
 
@@ -93,3 +91,7 @@ module _ (names : List NameView) (terms : List TermView) (ok : Proper names term
 
   pub literal-stripped : (n : ℕ) → n < length terms → sameKind (termAt terms (literalOf terms n .term) .head) head.Not ≡ false
   literal-stripped n h = below-stripped (suc n) n (omega arith) h .1
+
+-- ---- more terms change no earlier truth
+pub literal-true-kept : (ρ : Reading) (terms more : List TermView) (l : Literal) → l .term < length terms → literalTrue ρ (terms ++ more) l ≡ literalTrue ρ terms l
+literal-true-kept ρ terms more l h = ap (λ v. signed (l .negative) (holds v)) (values-kept ρ terms more (l .term) h)

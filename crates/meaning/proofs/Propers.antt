@@ -19,6 +19,9 @@ use Rattle.entries.specs.Views.{NameView, TermView}
 use Rattle.meaning.specs.Laws.{ProperKept, NamesKept}
 use Rattle.meaning.specs.Proper.{noTerm, termAt, sortAt, isNumeral, oneNumeral, isFactor, factorFirst, scales, wellFormed, ProperAt, Proper}
 use Rattle.meaning.specs.Sorts.{noName, nameAt, sameSorts, takesSorts, givesSort}
+use Rattle.meaning.specs.Values.{Reading, Fits}
+use Rattle.entries.specs.Filing.{file}
+use Rattle.entries.proofs.Filings.{file-cases}
 use Rattle.meaning.proofs.Built.{map-same}
 
 -- ---- one more term
@@ -134,3 +137,16 @@ proper-names names more terms ok i h =
       formed = and-from _ _ (takes-kept names more (t .head) (map (sortAt terms) (t .args)) (w .0)) (w .1);
       given = p .given ∙ gives-kept names more (t .head) (map (sortAt terms) (t .args)) (w .0);
     }
+
+pub fits-fewer : (names more : List NameView) (ρ : Reading) → Fits (names ++ more) ρ → Fits names ρ
+fits-fewer names more ρ fits f lt e vs l =
+    let q = getD-append-left names more noName f lt in
+    let k = length-append names more in
+    fits f (omega arith) (ap (λ (v : NameView). v .gives) q ∙ e) vs (l ∙ ap (λ (v : NameView). length (v .takes)) (sym q))
+
+-- ---- a term is filed
+pub proper-filed : (names : List NameView) (most : ℕ) (terms : List TermView) (t : TermView) → Proper names terms → ProperAt names terms (length terms) t → Proper names (file most terms t .1)
+proper-filed names most terms t ok p = elim (file-cases most terms t) [
+  | inl e ↦ subst (Proper names) (sym e) ok
+  | inr e ↦ subst (Proper names) (sym e) (proper-push names terms t ok p)
+]

@@ -7,7 +7,8 @@ use Prim.Native.Nat.{ℕ, _<_}
 use native.Mathlib.Omega.{arith}
 use lib.Dec.{ltb}
 use lib.IntN.{ℤ, pos, negsuc}
-use lib.ListN.{length, getD}
+use lib.ListN.{length}
+use lib.Signed.{leZ, ltZ}
 use Rattle.std.specs.Orderings.{Decides}
 use Rattle.std.specs.shelf.Lists.{All}
 use Rattle.std.proofs.shelf.Lists.{length-map}
@@ -55,6 +56,13 @@ module _ (ρ : Reading) (names : List NameView) (terms : List TermView) (ok : Pr
 
   pub value-by : (k : Head) → termAt terms n .head ≡ k → valueOf ρ terms n ≡ value ρ k (map (valueOf ρ terms) (termAt terms n .args))
   value-by k e = value-at ∙ ap (λ z. value ρ z (map (valueOf ρ terms) (termAt terms n .args))) e
+
+  pub value-over : (k : Head) (ns : List ℕ) → termAt terms n .head ≡ k → termAt terms n .args ≡ ns → valueOf ρ terms n ≡ value ρ k (map (valueOf ρ terms) ns)
+  value-over k ns e is = value-by k e ∙ ap (λ ms. value ρ k (map (valueOf ρ terms) ms)) is
+
+  -- a term whose value states a fact is true where the fact holds
+  pub fact-over : (k : Head) (ns : List ℕ) (b : Bool) → termAt terms n .head ≡ k → termAt terms n .args ≡ ns → value ρ k (map (valueOf ρ terms) ns) ≡ fact b → isTrue ρ terms n ≡ b
+  fact-over k ns b e is v = ap holds (value-over k ns e is ∙ v) ∙ holds-fact b
 
 -- ---- a Bool term is worth 0 or 1
 fact-bit : (b : Bool) → Bit (fact b)
@@ -124,11 +132,15 @@ module _ (names : List NameView) (terms : List TermView) (ok : Proper names term
       let one = one-from-map (sortAt terms) (termAt terms n .args) sort.Bool (sameSorts-decides _ (sort.Bool ∷ []) .0 (takes-by head.Not e)) in
       (one .0, one .1, subst (All (λ m. m < n)) (one .1) (ok n h .before) .0)
 
-  -- the two arguments of a `=>`
+  -- the two arguments of an operator that takes these two sorts
+  pub two-args : (k : Head) (x y : Sort) → ((ss : List Sort) → takesSorts names k ss ≡ sameSorts ss (x ∷ y ∷ [])) → termAt terms n .head ≡ k →
+      (a b : ℕ) × (termAt terms n .args ≡ a ∷ b ∷ [])
+  two-args k x y table e =
+      let ss = map (sortAt terms) (termAt terms n .args) in
+      two-from-map (sortAt terms) (termAt terms n .args) x y (sameSorts-decides ss (x ∷ y ∷ []) .0 (sym (table ss) ∙ takes-by k e))
+
   pub implies-args : termAt terms n .head ≡ head.Implies → (a b : ℕ) × (termAt terms n .args ≡ a ∷ b ∷ [])
-  implies-args e =
-      two-from-map (sortAt terms) (termAt terms n .args) sort.Bool sort.Bool
-      (sameSorts-decides _ (sort.Bool ∷ sort.Bool ∷ []) .0 (takes-by head.Implies e))
+  implies-args e = two-args head.Implies sort.Bool sort.Bool (λ ss. refl) e
 
   -- the two arguments of an `=`, of one sort
   pub equal-args : termAt terms n .head ≡ head.Equal → (a b : ℕ) × (termAt terms n .args ≡ a ∷ b ∷ []) × (sortAt terms a ≡ sortAt terms b)
@@ -136,22 +148,30 @@ module _ (names : List NameView) (terms : List TermView) (ok : Proper names term
 
 -- where the term is true
 module _ (ρ : Reading) (names : List NameView) (terms : List TermView) (ok : Proper names terms) (n : ℕ) (h : n < length terms) where
-  pub not-true-of : termAt terms n .head ≡ head.Not → (a : ℕ) → termAt terms n .args ≡ a ∷ [] → isTrue ρ terms n ≡ not (isTrue ρ terms a)
-  not-true-of e a is =
-      ap holds (value-by ρ names terms ok n h head.Not e ∙ ap (λ ns. value ρ head.Not (map (valueOf ρ terms) ns)) is) ∙ holds-fact _
-
   pub and-true : termAt terms n .head ≡ head.And → isTrue ρ terms n ≡ every (isTrue ρ terms) (termAt terms n .args)
-  and-true e = ap holds (value-by ρ names terms ok n h head.And e) ∙ holds-fact _ ∙ every-map (valueOf ρ terms) holds (termAt terms n .args)
+  and-true e = fact-over ρ names terms ok n h head.And _ _ e refl refl ∙ every-map (valueOf ρ terms) holds (termAt terms n .args)
 
   pub or-true : termAt terms n .head ≡ head.Or → isTrue ρ terms n ≡ some (isTrue ρ terms) (termAt terms n .args)
-  or-true e = ap holds (value-by ρ names terms ok n h head.Or e) ∙ holds-fact _ ∙ some-map (valueOf ρ terms) holds (termAt terms n .args)
+  or-true e = fact-over ρ names terms ok n h head.Or _ _ e refl refl ∙ some-map (valueOf ρ terms) holds (termAt terms n .args)
 
-  pub implies-true : termAt terms n .head ≡ head.Implies → (a b : ℕ) → termAt terms n .args ≡ a ∷ b ∷ [] → isTrue ρ terms n ≡ (not (isTrue ρ terms a) || isTrue ρ terms b)
-  implies-true e a b is =
-      ap holds (value-by ρ names terms ok n h head.Implies e ∙ ap (λ ns. value ρ head.Implies (map (valueOf ρ terms) ns)) is) ∙ holds-fact _
+  pub not-true-of : termAt terms n .head ≡ head.Not → (a : ℕ) → termAt terms n .args ≡ a ∷ [] → isTrue ρ terms n ≡ not (isTrue ρ terms a)
+  not-true-of e a is = fact-over ρ names terms ok n h head.Not (a ∷ []) _ e is refl
 
-  pub equal-true : termAt terms n .head ≡ head.Equal → (a b : ℕ) → termAt terms n .args ≡ a ∷ b ∷ [] → Decides (isTrue ρ terms n) (valueOf ρ terms a ≡ valueOf ρ terms b)
-  equal-true e a b is =
-      let r : isTrue ρ terms n ≡ sameValue (valueOf ρ terms a) (valueOf ρ terms b) =
-      ap holds (value-by ρ names terms ok n h head.Equal e ∙ ap (λ ns. value ρ head.Equal (map (valueOf ρ terms) ns)) is) ∙ holds-fact _ in
-      subst (λ t. Decides t (valueOf ρ terms a ≡ valueOf ρ terms b)) (sym r) (sameValue-decides (valueOf ρ terms a) (valueOf ρ terms b))
+  module _ (a b : ℕ) (is : termAt terms n .args ≡ a ∷ b ∷ []) where
+    pub implies-true : termAt terms n .head ≡ head.Implies → isTrue ρ terms n ≡ (not (isTrue ρ terms a) || isTrue ρ terms b)
+    implies-true e = fact-over ρ names terms ok n h head.Implies (a ∷ b ∷ []) _ e is refl
+
+    pub equal-true : termAt terms n .head ≡ head.Equal → isTrue ρ terms n ≡ sameValue (valueOf ρ terms a) (valueOf ρ terms b)
+    equal-true e = fact-over ρ names terms ok n h head.Equal (a ∷ b ∷ []) _ e is refl
+
+    pub le-true : termAt terms n .head ≡ head.Le → isTrue ρ terms n ≡ leZ (valueOf ρ terms a) (valueOf ρ terms b)
+    le-true e = fact-over ρ names terms ok n h head.Le (a ∷ b ∷ []) _ e is refl
+
+    pub lt-true : termAt terms n .head ≡ head.Lt → isTrue ρ terms n ≡ ltZ (valueOf ρ terms a) (valueOf ρ terms b)
+    lt-true e = fact-over ρ names terms ok n h head.Lt (a ∷ b ∷ []) _ e is refl
+
+    pub ge-true : termAt terms n .head ≡ head.Ge → isTrue ρ terms n ≡ leZ (valueOf ρ terms b) (valueOf ρ terms a)
+    ge-true e = fact-over ρ names terms ok n h head.Ge (a ∷ b ∷ []) _ e is refl
+
+    pub gt-true : termAt terms n .head ≡ head.Gt → isTrue ρ terms n ≡ ltZ (valueOf ρ terms b) (valueOf ρ terms a)
+    gt-true e = fact-over ρ names terms ok n h head.Gt (a ∷ b ∷ []) _ e is refl
