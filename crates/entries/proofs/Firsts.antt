@@ -67,7 +67,6 @@ module _ {X : Type 0} (P : X → Type 0) (p : X → Bool) (decides : (x : X) →
       let e : i ≡ 0 + i = omega arith in
       ap Some e ∙ sym (something xs 0 i (h .0) (h .1) (h .2))
 
-
 -- ---- views
 pub first-map : {X Y : Type 0} (f : X → Y) (p : Y → Bool) (xs : List X) (at : ℕ) → firstFrom at p (map f xs) ≡ firstFrom at (λ x. p (f x)) xs
 first-map f p [] at = refl

@@ -30,7 +30,10 @@ impl Clause {
     {
         Clause {
             len: 0,
-            literals: [Literal { negative: false, term: 0 }; MOST_LITERALS],
+            literals: [Literal {
+                negative: false,
+                term: 0,
+            }; MOST_LITERALS],
         }
     }
 

@@ -5,6 +5,8 @@ mod filing;
 pub mod limits;
 mod make;
 mod search;
+#[cfg(test)]
+mod tests;
 
 pub use entry::Clause;
 pub use entry::Head;
