@@ -45,3 +45,7 @@ namesOf memory n = map nameOf (take n memory)
 
 abbrev pub termsOf : List Term → ℕ → List TermView
 termsOf memory n = map termOf (take n memory)
+
+-- The terms that all entries of a memory stand for.
+abbrev pub viewsOf : List Term → List TermView
+viewsOf memory = map termOf memory

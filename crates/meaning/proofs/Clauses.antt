@@ -7,7 +7,7 @@ use Prim.Native.Nat.{ℕ, zero, suc, _+_, _<_, _≤_}
 use native.Mathlib.Omega.{arith}
 use lib.ListN.{length, getD, take}
 use Rattle.std.specs.shelf.Lists.{All, folded}
-use Rattle.std.proofs.shelf.Elements.{all-push, all-weaker}
+use Rattle.std.proofs.shelf.Elements.{all-map, all-push, all-weaker}
 use Rattle.std.proofs.shelf.Lists.{length-map, length-push, take-more, take-all, map-push}
 use Rattle.std.proofs.shelf.Tests.{cases-bool, cond-true, cond-false, or-left, or-right}
 use Rattle.entries.specs.declared.entry.Literal.{Literal}
@@ -18,7 +18,7 @@ use Rattle.entries.proofs.Filings.{holds-decides}
 use Rattle.meaning.specs.Proper.{Proper, Formed}
 use Rattle.meaning.specs.Truth.{literalOf, literalTrue, clauseTrue}
 use Rattle.meaning.specs.Values.{Reading, some, isTrue}
-use Rattle.meaning.proofs.Literals.{literal-true, literal-true-kept}
+use Rattle.meaning.proofs.Literals.{literal-true, literal-true-kept, literal-within}
 use Rattle.meaning.proofs.Values.{some-map}
 
 or-assoc : (a b c : Bool) → ((a || b) || c) ≡ (a || (b || c))
@@ -122,3 +122,13 @@ clause-truth-of ts ns c formed w e ρ =
     let l = length-map ts termOf in
     ap (clauseTrue ρ (map termOf ts)) e
     ∙ clause-true ρ (formed .0) (map termOf ts) (formed .1) ns (all-weaker (λ n. n < length ts) (λ n. n < length (map termOf ts)) (λ n h. omega arith) ns w)
+
+pub clause-within : (ts : List Term) (ns : List ℕ) (c : List Literal) → Formed (map termOf ts) → All (λ n. n < length ts) ns → c ≡ clauseFrom (map (literalOf (map termOf ts)) ns) →
+    All (λ (l : Literal). l .term < length ts) c
+clause-within ts ns c formed w e =
+    let k = length-map ts termOf in
+    let f = literalOf (map termOf ts) in
+    subst (All (λ (l : Literal). l .term < length ts)) (sym e)
+    (all-clause (λ (l : Literal). l .term < length ts) (map f ns)
+    (all-map (λ (l : Literal). l .term < length ts) f ns
+    (all-weaker (λ n. n < length ts) (λ n. f n .term < length ts) (λ n h. omega (arith, literal-within (formed .0) (map termOf ts) (formed .1) n (omega arith))) ns w)))

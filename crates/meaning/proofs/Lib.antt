@@ -5,3 +5,4 @@ pub mod Propers
 pub mod Literals
 pub mod Clauses
 pub mod Strips
+mod Samples

@@ -2,7 +2,7 @@
 use mathlib.Core.Path.{_≡_, refl, sym, ap, _∙_}
 use mathlib.Core.Bool.{Bool, true, false, not}
 use mathlib.Core.List.{List, [], _∷_, map}
-use Prim.Native.Nat.{ℕ, _<_}
+use Prim.Native.Nat.{ℕ, _<_, _≤_}
 use native.Mathlib.Omega.{arith}
 use lib.ListN.{length, getD}
 use Rattle.std.proofs.shelf.Lists.{length-map}
@@ -15,7 +15,7 @@ use Rattle.entries.specs.Views.{termOf}
 use Rattle.meaning.specs.Proper.{Formed, termAt}
 use Rattle.meaning.specs.Truth.{positive, literalOf, literalTrue}
 use Rattle.meaning.specs.Values.{Reading, isTrue}
-use Rattle.meaning.proofs.Literals.{turned, is-not, literal-inner, literal-own, literal-true}
+use Rattle.meaning.proofs.Literals.{turned, is-not, literal-inner, literal-own, literal-within, literal-true}
 use Rattle.meaning.proofs.Values.{not-args}
 
 not-not : (b : Bool) → b ≡ not (not b)
@@ -62,6 +62,11 @@ module _ (ts : List Term) (formed : Formed (map termOf ts)) (n at : ℕ) (s : Bo
 
   pub strip-done : sameKind (termAt (map termOf ts) at .head) head.Not ≡ false → record { negative = s; term = at } ≡ literalOf (map termOf ts) n
   strip-done e = sym (own s at) ∙ ap (turned s) (sym (literal-own (formed .0) (map termOf ts) (formed .1) at within e)) ∙ inv
+
+-- the literal's term does not stand after the term
+pub term-of : (ts : List Term) (n : ℕ) (l : Literal) → Formed (map termOf ts) → n < length ts → l ≡ literalOf (map termOf ts) n → l .term ≤ n
+term-of ts n l formed h e =
+    omega (arith, ap (λ (m : Literal). m .term) e, literal-within (formed .0) (map termOf ts) (formed .1) n (omega (arith, length-map ts termOf)))
 
 -- the literal is true where the term is
 pub truth-of : (ts : List Term) (n : ℕ) (l : Literal) → Formed (map termOf ts) → n < length ts → l ≡ literalOf (map termOf ts) n → (ρ : Reading) →

@@ -1,6 +1,7 @@
 -- The literal of a term, and where literals and clauses are true.
 use mathlib.Core.Bool.{Bool, true, false, not, cond}
 use mathlib.Core.List.{List}
+use mathlib.Core.Path.{_≡_}
 use Prim.Native.Nat.{ℕ}
 use lib.ListN.{getD}
 use Rattle.entries.specs.declared.entry.Head.the-variants as head
@@ -31,3 +32,11 @@ literalTrue ρ terms l = signed (l .negative) (isTrue ρ terms (l .term))
 -- A clause is true where one of its literals is.
 abbrev pub clauseTrue : Reading → List TermView → List Literal → Bool
 clauseTrue ρ terms c = some (literalTrue ρ terms) c
+
+-- Under every reading a literal is true exactly where the term with the number n is.
+abbrev pub LiteralMeans : List TermView → Literal → ℕ → Type 0
+LiteralMeans terms l n = (ρ : Reading) → literalTrue ρ terms l ≡ isTrue ρ terms n
+
+-- Under every reading a clause is true exactly where one of the terms with these numbers is.
+abbrev pub ClauseMeans : List TermView → List Literal → List ℕ → Type 0
+ClauseMeans terms c ns = (ρ : Reading) → clauseTrue ρ terms c ≡ some (isTrue ρ terms) ns

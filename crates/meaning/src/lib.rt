@@ -1,5 +1,7 @@
 //! What terms mean: readings, values, and where literals and clauses are true.
 mod read;
+#[cfg(test)]
+mod tests;
 
 ghost use Rattle.meaning.specs.Laws.{ValuesKept, BoolBits, TrueAtOne, ProperKept, NamesKept};
 pub use read::clause_of;

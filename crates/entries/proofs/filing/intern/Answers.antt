@@ -10,8 +10,8 @@ returns-then-end-min c =
     let n = c .args .count .now in
     let h = c .in-None .ensures tt in
     record {
-      filed = file-full ts n (room ts) (c .args .term) (omega arith) (omega arith) h;
-      stands = stands-full ts n (room ts) (c .args .term) (omega arith) (omega arith) h;
+      filed = file-full ts n (room 4096 ts) (c .args .term) (omega arith) (omega arith) h;
+      stands = stands-full ts n (room 4096 ts) (c .args .term) (omega arith) (omega arith) h;
       fits = omega arith;
     }
 
@@ -21,8 +21,8 @@ returns-in-Some c =
     let n = c .args .count .now in
     let h = c .in-Some .ensures tt in
     record {
-      filed = file-found ts n (room ts) (c .args .term) (c .in-Some .place) h;
-      stands = stands-found ts n (room ts) (c .args .term) (c .in-Some .place) h;
+      filed = file-found ts n (room 4096 ts) (c .args .term) (c .in-Some .place) h;
+      stands = stands-found ts n (room 4096 ts) (c .args .term) (c .in-Some .place) h;
       fits = omega arith;
     }
 
@@ -32,7 +32,7 @@ returns-else-end-min c =
     let n = c .args .count .now in
     let h = c .in-None .ensures tt in
     record {
-      filed = file-end ts n (room ts) (c .args .term) (omega arith) (omega arith) h;
-      stands = stands-end ts n (room ts) (c .args .term) (omega arith) h;
+      filed = file-end ts n (room 4096 ts) (c .args .term) (omega arith) (omega arith) h;
+      stands = stands-end ts n (room 4096 ts) (c .args .term) (omega arith) h;
       fits = search needs;
     }

@@ -6,7 +6,7 @@ use Rattle.std.proofs.shelf.Elements.{all-getD}
 use Rattle.entries.specs.Clauses.{clauseFrom}
 use Rattle.entries.specs.Views.{termOf, clauseOf}
 use Rattle.meaning.specs.Truth.{literalOf}
-use Rattle.meaning.proofs.Clauses.{written-more, written-all, clause-truth-of}
+use Rattle.meaning.proofs.Clauses.{written-more, written-all, clause-within, clause-truth-of}
 use Rattle.meaning.proofs.read.clause_of.Needs as need
 
 pub literal-of-requires : need.literal-of-requires
@@ -26,4 +26,8 @@ returns c =
     let ts = c .args .terms .now in
     let ns = c .args .written .now in
     let is = written-all (literalOf (map termOf ts)) ns (c .loop-n .n-index) (c .loop-n-test .left) (clauseOf (c .loop-n .clause)) (c .loop-n .inv .1) in
-    record { literals = is; truth = clause-truth-of ts ns (clauseOf (c .loop-n .clause)) (c .pre .formed) (c .pre .within) is }
+    record {
+      literals = is;
+      within = clause-within ts ns (clauseOf (c .loop-n .clause)) (c .pre .formed) (c .pre .within) is;
+      truth = clause-truth-of ts ns (clauseOf (c .loop-n .clause)) (c .pre .formed) (c .pre .within) is;
+    }

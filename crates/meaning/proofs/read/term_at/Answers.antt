@@ -6,4 +6,4 @@ use Rattle.meaning.proofs.read.term_at.Needs as need
 
 pub returns : need.returns
 returns c =
-    ap termOf (c .index-terms-n .is) ∙ sym (getD-map termOf (c .args .terms .now) (c .args .n) (c .index-terms-n .result) noTerm (c .pre))
+    ap termOf (c .index-terms-place .is) ∙ sym (getD-map termOf (c .args .terms .now) (c .args .n) (c .index-terms-place .result) noTerm (c .pre))
