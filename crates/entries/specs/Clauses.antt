@@ -1,5 +1,5 @@
 -- Literals and clauses.
-use mathlib.Core.Bool.{Bool, true, false, not, cond, _||_}
+use mathlib.Core.Bool.{Bool, false, not, cond, _||_}
 use mathlib.Core.List.{List, [], _∷_, _++_}
 use Rattle.std.specs.shelf.Lists.{folded}
 use Rattle.entries.specs.declared.entry.Literal.{Literal}

@@ -1,6 +1,5 @@
 -- Equality of heads, sorts, terms and literals, as tests.
 use mathlib.Core.Bool.{Bool, true, false, not, cond, _&&_}
-use mathlib.Core.List.{List, [], _∷_}
 use Prim.Native.Nat.{ℕ}
 use lib.Dec.{eqb}
 use Rattle.std.specs.shelf.Text.{sameBytes}

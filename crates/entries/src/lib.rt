@@ -1,4 +1,4 @@
-//! What the lists of a sheet hold, and the one search through them.
+//! What the lists hold: words, names, terms, literals, clauses; and the one search through them.
 mod clause;
 mod entry;
 mod filing;

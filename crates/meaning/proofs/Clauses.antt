@@ -2,19 +2,21 @@
 use mathlib.Core.Path.{_≡_, refl, sym, ap, _∙_, subst}
 use mathlib.Core.List.{List, [], _∷_, _++_, map}
 use mathlib.Core.Bool.{Bool, true, false, _||_}
-use mathlib.Core.Logic.{inl, inr}
+use mathlib.Core.Logic.{inl, inr, ⊎-elim}
 use Prim.Native.Nat.{ℕ, zero, suc, _+_, _<_, _≤_}
 use native.Mathlib.Omega.{arith}
 use lib.ListN.{length, getD, take}
 use Rattle.std.specs.shelf.Lists.{All, folded}
 use Rattle.std.proofs.shelf.Elements.{all-map, all-push, all-weaker}
-use Rattle.std.proofs.shelf.Lists.{length-map, length-push, take-more, take-all, map-push}
-use Rattle.std.proofs.shelf.Tests.{cases-bool, cond-true, cond-false, or-left, or-right}
+use Rattle.std.proofs.shelf.Lists.{length-map, length-push, getD-append-left, getD-push, getD-default, take-more, take-all, map-push}
+use Rattle.std.proofs.shelf.Tests.{cases-bool, cond-true, cond-false, or-left, or-right, cases-lt, false≢true}
 use Rattle.entries.specs.declared.entry.Literal.{Literal}
 use Rattle.entries.specs.Clauses.{holdsLiteral, with as withOne, clauseFrom}
+use Rattle.entries.specs.Equality.{sameLiteral}
 use Rattle.entries.specs.declared.entry.Term.{Term}
 use Rattle.entries.specs.Views.{NameView, TermView, termOf}
 use Rattle.entries.proofs.Filings.{holds-decides}
+use Rattle.meaning.specs.Laws.{ClausesWritten}
 use Rattle.meaning.specs.Proper.{Proper, Formed}
 use Rattle.meaning.specs.Truth.{literalOf, literalTrue, clauseTrue}
 use Rattle.meaning.specs.Values.{Reading, some, isTrue}
@@ -132,3 +134,40 @@ clause-within ts ns c formed w e =
     (all-clause (λ (l : Literal). l .term < length ts) (map f ns)
     (all-map (λ (l : Literal). l .term < length ts) f ns
     (all-weaker (λ n. n < length ts) (λ n. f n .term < length ts) (λ n h. omega (arith, literal-within (formed .0) (map termOf ts) (formed .1) n (omega arith))) ns w)))
+
+-- ---- a clause has the literals that were written, each of them once
+holds-some : (c : List Literal) (l : Literal) → holdsLiteral c l ≡ some (λ m. sameLiteral m l) c
+holds-some [] l = refl
+holds-some (m ∷ c) l = ap (λ b. sameLiteral m l || b) (holds-some c l)
+
+abbrev Once : List Literal → Type 0
+Once c = (i j : ℕ) (d : Literal) → i < j → j < length c → getD c i d ≡ getD c j d → ⊥
+
+once-push : (c : List Literal) (l : Literal) → holdsLiteral c l ≡ false → Once c → Once (c ++ l ∷ [])
+once-push c l new once i j d lt h e =
+    let k = length-push c l in
+    let b : i < length c = omega arith in
+    let a = getD-append-left c (l ∷ []) d i b in
+    ⊎-elim
+    (λ (g : j < length c). once i j d lt g (sym a ∙ e ∙ getD-append-left c (l ∷ []) d j g))
+    (λ (g : length c ≤ j).
+    let at-end : length c ≡ j = omega arith in
+    let is : getD c i d ≡ l = sym a ∙ e ∙ getD-push c l d j at-end in
+    false≢true (sym new ∙ holds-decides c l .1 (i, b, λ f. getD-default c i f d b ∙ is)))
+    (cases-lt j (length c))
+
+once-with : (c : List Literal) (l : Literal) → Once c → Once (withOne c l)
+once-with c l once = elim (cases-bool (holdsLiteral c l)) [
+  | inl e ↦ subst Once (sym (cond-true (holdsLiteral c l) c (c ++ l ∷ []) e)) once
+  | inr e ↦ subst Once (sym (cond-false (holdsLiteral c l) c (c ++ l ∷ []) e)) (once-push c l e once)
+]
+
+once-from : (ls c : List Literal) → Once c → Once (folded withOne c ls)
+once-from [] c once = once
+once-from (l ∷ ls) c once = once-from ls (withOne c l) (once-with c l once)
+
+pub clauses-written : ClausesWritten
+clauses-written ls = record {
+  same = λ l. holds-some (clauseFrom ls) l ∙ some-clause (λ m. sameLiteral m l) ls ∙ sym (holds-some ls l);
+  once = once-from ls [] (λ i j d lt h e. omega arith);
+}

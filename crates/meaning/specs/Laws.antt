@@ -3,9 +3,11 @@ use mathlib.Core.List.{List, [], _∷_, _++_}
 use mathlib.Core.Path.{_≡_}
 use Prim.Native.Nat.{ℕ, _<_}
 use lib.IntN.{pos}
-use lib.ListN.{length}
+use lib.ListN.{length, getD}
 use Rattle.std.specs.Orderings.{Decides}
+use Rattle.entries.specs.declared.entry.Literal.{Literal}
 use Rattle.entries.specs.declared.entry.Sort.the-variants as sort
+use Rattle.entries.specs.Clauses.{holdsLiteral, clauseFrom}
 use Rattle.entries.specs.Views.{NameView, TermView}
 use Rattle.meaning.specs.Proper.{Proper, ProperAt, sortAt}
 use Rattle.meaning.specs.Values.{Reading, Fits, Bit, valueOf, isTrue}
@@ -31,3 +33,11 @@ ProperKept = (names : List NameView) (terms : List TermView) (t : TermView) → 
 -- A proper list stays proper where more names are declared.
 abbrev pub NamesKept : Type 0
 NamesKept = (names more : List NameView) (terms : List TermView) → Proper names terms → Proper (names ++ more) terms
+
+-- A clause has the literals that were written, each of them once.
+pub record AsWritten (written clause : List Literal) : Type 0 where
+  pub same : (l : Literal) → holdsLiteral clause l ≡ holdsLiteral written l
+  pub once : (i j : ℕ) (d : Literal) → i < j → j < length clause → getD clause i d ≡ getD clause j d → ⊥
+
+abbrev pub ClausesWritten : Type 0
+ClausesWritten = (written : List Literal) → AsWritten written (clauseFrom written)
