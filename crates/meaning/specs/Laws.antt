@@ -28,7 +28,9 @@ BoolBits =
 
 -- A proper list stays proper where a proper term goes to its end.
 abbrev pub ProperKept : Type 0
-ProperKept = (names : List NameView) (terms : List TermView) (t : TermView) → Proper names terms → ProperAt names terms (length terms) t → Proper names (terms ++ t ∷ [])
+ProperKept =
+    (names : List NameView) (terms : List TermView) (t : TermView) → Proper names terms → ProperAt names terms (length terms) t →
+    Proper names (terms ++ t ∷ [])
 
 -- A proper list stays proper where more names are declared.
 abbrev pub NamesKept : Type 0

@@ -33,7 +33,9 @@ Bit v = (v ≡ pos 0) ⊎ (v ≡ pos 1)
 
 -- A reading fits declared names where each that gives Bool is 0 or 1 on every list of its length.
 abbrev pub Fits : List NameView → Reading → Type 0
-Fits names ρ = (f : ℕ) → f < length names → nameAt names f .gives ≡ sort.Bool → (vs : List ℤ) → length vs ≡ length (nameAt names f .takes) → Bit (ρ f vs)
+Fits names ρ =
+    (f : ℕ) → f < length names → nameAt names f .gives ≡ sort.Bool →
+    (vs : List ℤ) → length vs ≡ length (nameAt names f .takes) → Bit (ρ f vs)
 
 abbrev pub sameValue : ℤ → ℤ → Bool
 sameValue (pos a) (pos b) = eqb a b
