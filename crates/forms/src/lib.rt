@@ -19,4 +19,6 @@ pub use form::ProofForm;
 pub use form::Step;
 pub use layer::problem_form;
 pub use layer::proof_form;
+pub use takes::next;
+pub use takes::symbol;
 pub use word::Word;

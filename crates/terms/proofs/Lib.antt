@@ -1,2 +1,6 @@
+pub mod Calls
 pub mod Heads
+pub mod Leaves
+pub mod Midway
 pub mod Placing
+pub mod Turns

@@ -127,3 +127,7 @@ module _ (names : List Name) (memory : List Term) (n : ℕ) (wants : Bool) (at :
               more = le;
               kept = sym (ap (map termOf) (take-take n n′ memory′ le)) ∙ sym (take-map termOf n (take n′ memory′)) ∙ ap (take n) same ∙ take-append-le n ts more (omega (arith, long)) ∙ take-all n ts (omega (arith, long));
             }
+
+-- a number of a term stands for one of the first n places
+pub number-within : (memory : List Term) (n i : ℕ) → n ≤ room 4096 memory → i < length (termsOf memory n) → i < n
+number-within memory n i fits lt = omega (arith, length-termsOf memory n (omega (arith, fits)))

@@ -9,12 +9,12 @@ use entries::Term;
 use entries::intern;
 use sorting::gives_sort;
 use sorting::well_formed;
-
 ghost use mathlib.Core.Bool.{not, _||_};
 ghost use mathlib.Core.List.{map};
 ghost use mathlib.Core.Path.{_≡_};
 ghost use Prim.Native.Nat.{_<_, _≤_};
 ghost use lib.ListN.{length};
+ghost use Rattle.std.specs.Vec.{made as WhenOk};
 ghost use Rattle.std.specs.shelf.Lists.{All};
 ghost use Rattle.entries.specs.Equality.{sameSort};
 ghost use Rattle.entries.specs.Filing.{room};
@@ -62,6 +62,7 @@ pub fn place_term(
     requires within { ⌜ All (λ n. n < now count) (now args) ⌝ }
     requires few { ⌜ length (now args) ≤ 64 ⌝ }
     ensures does { λ r. ⌜ Does (made (map nameOf (now (names .entry))) (room 4096 (now (terms .entry))) wants at head (now (args .entry)) (termsOf (now (terms .entry)) (now (count .entry)))) r (termsOf (now (terms .exit)) (now (count .exit))) ⌝ }
+    ensures within { λ r. ⌜ WhenOk r (λ n. n < now (count .exit)) ⌝ }
     ensures ready { λ _. ⌜ Ready (now (names .entry)) (now (terms .exit)) (now (count .exit)) ⌝ }
     ensures grown { λ _. ⌜ Grown (now (terms .entry)) (now (count .entry)) (now (terms .exit)) (now (count .exit)) ⌝ }
 {
