@@ -1,7 +1,7 @@
 //! One file: its commands through the layers, and what came of them.
 use pieces::Cutter;
+use pieces::Lines;
 use pieces::Position;
-use pieces::line_column;
 use std::fmt;
 use std::io;
 use text::TokenFault;
@@ -56,7 +56,7 @@ pub fn check_file(rt: &LibcRuntime, name: &str, text: &[u8]) -> io::Result<Repor
         tokens: 0,
         refused: 0,
     };
-    let mut place = Position::start();
+    let mut lines = Lines::new(text);
     let mut cutter = Cutter::new(text);
     while let Some(piece) = cutter.next() {
         match scan(piece.text) {
@@ -65,7 +65,7 @@ pub fn check_file(rt: &LibcRuntime, name: &str, text: &[u8]) -> io::Result<Repor
                 report.tokens += tokens;
             }
             Err(fault) => {
-                place = line_column(text, place, piece.at.saturating_add(fault.place()));
+                let place = lines.position(piece.at.saturating_add(fault.place()));
                 print_refusal(rt, name, place, report.commands + 1, fault)?;
                 report.refused += 1;
             }

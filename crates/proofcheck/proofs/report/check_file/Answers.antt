@@ -4,12 +4,12 @@ use Rattle.proofcheck.proofs.report.check_file.Needs as need
 
 pub add-report-in-Ok : need.add-report-in-Ok
 add-report-in-Ok c =
-    omega (arith, room _ _ _ _ _ (c .loop-piece .inv .0) _ (c .in-Some .ensures tt), c .in-Ok .ensures tt .value .1)
+    omega (arith, room _ _ _ _ _ (c .loop-piece .inv) _ (c .in-Some .ensures tt), c .in-Ok .ensures tt .value .1)
 
 pub loop-piece-again-in-Ok : need.loop-piece-again-in-Ok
 loop-piece-again-in-Ok c =
-    (accept _ _ _ _ _ (c .loop-piece .inv .0) _ (c .in-Some .ensures tt) _ (c .in-Ok .ensures tt .value .0) (c .in-Ok .ensures tt .value .1), c .loop-piece .inv .1)
+    accept _ _ _ _ _ (c .loop-piece .inv) _ (c .in-Some .ensures tt) _ (c .in-Ok .ensures tt .value .0) (c .in-Ok .ensures tt .value .1)
 
 pub loop-piece-again : need.loop-piece-again
 loop-piece-again c =
-    (refuse _ _ _ _ _ (c .loop-piece .inv .0) _ (c .in-Some .ensures tt) _ (c .in-Err .ensures tt .value), c .line-column-place .ensures .placed)
+    refuse _ _ _ _ _ (c .loop-piece .inv) _ (c .in-Some .ensures tt) _ (c .in-Err .ensures tt .value)
