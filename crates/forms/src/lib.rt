@@ -8,6 +8,8 @@ mod problem;
 mod proof;
 mod takes;
 mod terms;
+#[cfg(test)]
+mod tests;
 mod word;
 
 pub use fault::FormFault;

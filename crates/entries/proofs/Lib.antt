@@ -1,0 +1,5 @@
+pub mod Fronts
+pub mod Firsts
+pub mod Alike
+pub mod Filings
+pub mod Lookups
