@@ -19,4 +19,8 @@ pub use form::ProofForm;
 pub use form::Step;
 pub use layer::problem_form;
 pub use layer::proof_form;
+pub use takes::closing;
+pub use takes::open;
+pub use takes::same;
+pub use takes::symbol;
 pub use word::Word;
