@@ -64,6 +64,24 @@ kindOf Skipped = kind.Skipped
 kindOf (Accepted command) = formKind (command .form)
 kindOf (Refused f) = kind.Refused
 
+-- A kind's place in a table of all kinds.
+abbrev pub number : Kind → ℕ
+number kind.Skipped = 0
+number kind.Refused = 1
+number kind.SetLogic = 2
+number kind.DeclareSort = 3
+number kind.DeclareFun = 4
+number kind.Assert = 5
+number kind.Assume = 6
+number kind.Step = 7
+number kind.Anchor = 8
+
+-- One for a command that is accepted.
+abbrev pub commandCount : Outcome → ℕ
+commandCount Skipped = 0
+commandCount (Accepted command) = 1
+commandCount (Refused f) = 0
+
 -- The tokens of a command that is accepted.
 abbrev pub tokenCount : Outcome → ℕ
 tokenCount Skipped = 0

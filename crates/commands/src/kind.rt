@@ -1,6 +1,9 @@
 //! The kinds of outcomes that a report counts.
-use std::fmt;
+ghost use mathlib.Core.Path.{_≡_};
+ghost use Prim.Native.Nat.{_<_};
+ghost use Rattle.commands.specs.Outcomes.{number};
 
+/// An outcome that is no form, or the form of an accepted command.
 #[derive(Clone, Copy, Debug)]
 pub enum Kind {
     Skipped,
@@ -14,18 +17,12 @@ pub enum Kind {
     Anchor,
 }
 
-pub impl fmt::Display for Kind as KindDisplay {
-    fn fmt<W: fmt::Write>(&self, f: &mut fmt::Formatter<W>) -> fmt::Result {
-        match *self {
-            Kind::Skipped => f.write_str("skipped"),
-            Kind::Refused => f.write_str("refused"),
-            Kind::SetLogic => f.write_str("set-logic"),
-            Kind::DeclareSort => f.write_str("declare-sort"),
-            Kind::DeclareFun => f.write_str("declare-fun"),
-            Kind::Assert => f.write_str("assert"),
-            Kind::Assume => f.write_str("assume"),
-            Kind::Step => f.write_str("step"),
-            Kind::Anchor => f.write_str("anchor"),
-        }
+impl Kind {
+    /// Its place in a table of all kinds.
+    pub fn index(self) -> usize
+        ensures value { λ r. ⌜ r ≡ number self ⌝ }
+        ensures within { λ r. ⌜ r < 9 ⌝ }
+    {
+        self as usize
     }
 }

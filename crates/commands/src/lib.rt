@@ -14,7 +14,6 @@ pub use fault::LayerDisplay;
 pub use form::Form;
 pub use form::FormDisplay;
 pub use kind::Kind;
-pub use kind::KindDisplay;
 pub use outcome::Command;
 pub use outcome::Outcome;
 pub use outcome::examine;

@@ -10,7 +10,7 @@ use crate::part::Part;
 use text::scan;
 ghost use mathlib.Core.Path.{_≡_};
 ghost use Rattle.text.specs.Tokens.{tokens};
-ghost use Rattle.commands.specs.Outcomes.{Examined, Comes, kindOf, placeOf, tokenCount};
+ghost use Rattle.commands.specs.Outcomes.{Examined, Comes, kindOf, placeOf, commandCount, tokenCount};
 
 /// A command that every layer accepts: how many tokens it has, and its form.
 #[derive(Clone, Copy)]
@@ -36,6 +36,16 @@ impl Outcome<'_> {
             Outcome::Skipped => Kind::Skipped,
             Outcome::Refused(_) => Kind::Refused,
             Outcome::Accepted(command) => command.form.kind(),
+        }
+    }
+
+    /// How many accepted commands it is.
+    pub fn accepted(self) -> usize
+        ensures { λ r. ⌜ r ≡ commandCount (self .entry) ⌝ }
+    {
+        match self {
+            Outcome::Accepted(_) => 1,
+            _ => 0,
         }
     }
 
