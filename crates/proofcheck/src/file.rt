@@ -58,7 +58,7 @@ pub fn check_file(rt: &LibcRuntime, file: File<'_>, text: &[u8]) -> io::Result<R
     while let Some(piece) = cutter.next() {
         let outcome = outcome_of(file.part, piece.text);
         let place = lines.position(piece.at.saturating_add(outcome.place()));
-        print_outcome(rt, file, place, report.commands() + 1, outcome)?;
+        print_outcome(rt, file, place, report.commands + 1, outcome)?;
         report.add(outcome);
     }
     Ok(report)

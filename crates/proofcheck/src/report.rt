@@ -13,7 +13,7 @@ ghost use Rattle.commands.specs.Outcomes.{number, kindOf, commandCount, tokenCo
 #[derive(Clone, Copy)]
 pub struct Report {
     part: Part,
-    commands: usize,
+    pub commands: usize,
     tokens: usize,
     counts: [usize; 9],
     ghost full: { length counts ≡ 9 },
@@ -31,13 +31,6 @@ impl Report {
             tokens: 0,
             counts: [0; 9],
         }
-    }
-
-    /// How many commands were accepted.
-    pub fn commands(&self) -> usize
-        ensures { λ r. ⌜ r ≡ now (self .entry) .commands ⌝ }
-    {
-        self.commands
     }
 
     /// How many outcomes were of the kind `kind`.
