@@ -88,6 +88,14 @@ tokenCount Skipped = 0
 tokenCount (Accepted command) = command .tokens
 tokenCount (Refused f) = 0
 
+-- Two outcomes are counted alike.
+abbrev pub Alike : Outcome → Outcome → Type 0
+Alike a b = (kindOf a ≡ kindOf b) × (commandCount a ≡ commandCount b) × (tokenCount a ≡ tokenCount b)
+
+-- All that a command can come to is counted alike.
+abbrev pub Determined : Part → List Tok → Type 0
+Determined p ts = (a b : Outcome) → Comes p ts a → Comes p ts b → Alike a b
+
 -- The byte to point at: the one at fault, or else the first.
 abbrev pub placeOf : Outcome → ℕ
 placeOf Skipped = 0

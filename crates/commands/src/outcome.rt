@@ -10,7 +10,7 @@ use crate::part::Part;
 use text::scan;
 ghost use mathlib.Core.Path.{_≡_};
 ghost use Rattle.text.specs.Tokens.{tokens};
-ghost use Rattle.commands.specs.Outcomes.{Examined, Comes, kindOf, placeOf, commandCount, tokenCount};
+ghost use Rattle.commands.specs.Outcomes.{Examined, Comes, Determined, kindOf, placeOf, commandCount, tokenCount};
 
 /// A command that every layer accepts: how many tokens it has, and its form.
 #[derive(Clone, Copy)]
@@ -81,7 +81,8 @@ pub fn examine<'a>(part: Part, text: &'a [u8]) -> Result<Command<'a>, Fault>
 
 /// What the command `text` of the part `part` comes to.
 pub fn outcome_of<'a>(part: Part, text: &'a [u8]) -> Outcome<'a>
-    ensures { λ r. ⌜ Comes part (tokens (now (text .entry))) r ⌝ }
+    ensures value { λ r. ⌜ Comes part (tokens (now (text .entry))) r ⌝ }
+    ensures determined { λ _. ⌜ Determined part (tokens (now (text .entry))) ⌝ }
 {
     if is_chatter(part, text) {
         return Outcome::Skipped;

@@ -9,13 +9,13 @@ add-requires c κs =
     let outcome = c .outcome-of-outcome .result in
     record {
       commands = omega (arith, room-commands (c .args .file .part) _ _ _ _ _ (c .loop-piece .inv) _ next);
-      tokens = omega (arith, room-tokens (c .args .file .part) _ _ _ _ _ (c .loop-piece .inv) _ next outcome (c .outcome-of-outcome .ensures));
+      tokens = omega (arith, room-tokens (c .args .file .part) _ _ _ _ _ (c .loop-piece .inv) _ next outcome (c .outcome-of-outcome .ensures .value));
       counts = omega (arith, room-kind (c .args .file .part) _ _ _ _ _ (c .loop-piece .inv) _ next (kindOf outcome));
     }
 
 pub loop-piece-again : need.loop-piece-again
 loop-piece-again c =
-    step (c .args .file .part) _ _ _ _ _ (c .loop-piece .inv) _ (c .in-Some .ensures tt) (c .outcome-of-outcome .result) (c .outcome-of-outcome .ensures)
+    step (c .args .file .part) _ _ _ _ _ (c .loop-piece .inv) _ (c .in-Some .ensures tt) (c .outcome-of-outcome .result) (c .outcome-of-outcome .ensures .value)
     (c .add .last .self) (c .add .ensures .commands) (c .add .ensures .tokens) (c .add .ensures .counts)
 
 pub returns : need.returns
