@@ -13,6 +13,7 @@ pub use entry::Head;
 pub use entry::Literal;
 pub use entry::Name;
 pub use entry::Sort;
+pub use entry::SortPartialEq;
 pub use entry::Symbol;
 pub use entry::Term;
 pub use filing::intern;

@@ -13,6 +13,9 @@ ghost use Rattle.text.specs.Reading.{left};
 ghost use Rattle.forms.specs.Forms.{spellSetLogic, spellDeclareSort, spellDeclareFun, spellAssert, FitDeclareFun, FitAssert, spellProblem, FitProblem};
 ghost use Rattle.forms.specs.Parsed.{Parses, keptSetLogic, keptDeclareSort, keptDeclareFun, keptAssert, keptProblem, seenProblem};
 
+/// The arity of declared sorts.
+const ARITY: u32 = 0;
+
 /// `S)`
 fn set_logic<'a>(body: Reader<'a>) -> Option<ProblemForm<'a>>
     ensures { λ r. ⌜ Parses (λ _. Unit {0}) spellSetLogic keptSetLogic seenProblem (left (body .entry)) r ⌝ }
@@ -28,7 +31,7 @@ fn declare_sort<'a>(body: Reader<'a>) -> Option<ProblemForm<'a>>
 {
     let (sort, arity) = symbol(body)?;
     let (_, value, rest) = numeral(arity)?;
-    if value != 0 {
+    if value != ARITY {
         return None;
     }
     closing(rest)?;

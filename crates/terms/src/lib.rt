@@ -1,0 +1,2 @@
+//! The term layer: reading terms from text into the list.
+mod place;
