@@ -1,4 +1,4 @@
 pub mod Balance
 pub mod Closing
 pub mod Cutting
-pub mod Lines
+pub mod Feeds

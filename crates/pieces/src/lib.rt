@@ -1,5 +1,6 @@
 //! Cutting a file into commands, and the lines and columns of its bytes.
 mod cutter;
+mod lines;
 mod nest;
 mod position;
 #[cfg(test)]
@@ -7,5 +8,5 @@ mod tests;
 
 pub use cutter::Cutter;
 pub use cutter::Piece;
+pub use lines::Lines;
 pub use position::Position;
-pub use position::line_column;

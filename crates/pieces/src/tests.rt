@@ -1,9 +1,9 @@
 //! The edge cases of cutting, and of lines and columns.
 use crate::cutter::Cutter;
+use crate::lines::Lines;
 use crate::position::Position;
 use crate::position::PositionDebug;
 use crate::position::PositionPartialEq;
-use crate::position::line_column;
 use std::test::*;
 
 /// Whether the next piece of `cutter` is `text` at `at`.
@@ -40,7 +40,7 @@ fn empty() -> Result<(), Fail> {
 
 /// Whether the place `at` of `text` has this line and column, counted from the start.
 fn stands(text: &[u8], at: usize, line: usize, column: usize) -> bool {
-    let place = line_column(text, Position::start(), at);
+    let place = Lines::new(text).position(at);
     place.line == line && place.column == column
 }
 
@@ -54,10 +54,9 @@ fn places() -> Result<(), Fail> {
 
 #[test]
 fn places_from_others() -> Result<(), Fail> {
-    let text: &[u8] = b"ab\ncd\ne";
-    let near = line_column(text, Position::start(), 4);
+    let mut lines = Lines::new(b"ab\ncd\ne");
     check_eq(
-        line_column(text, near, 6),
+        lines.position(6),
         Position {
             at: 6,
             line: 3,
@@ -65,11 +64,12 @@ fn places_from_others() -> Result<(), Fail> {
         },
     )?;
     check_eq(
-        line_column(text, near, 1),
+        lines.position(1),
         Position {
             at: 1,
             line: 1,
             column: 2,
         },
-    )
+    )?;
+    check(lines.position(4).line == 2)
 }

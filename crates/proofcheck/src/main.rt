@@ -1,18 +1,22 @@
 //! `proofcheck PROBLEM PROOF`: checks a problem and the proof that no value meets its claims.
 mod failure;
+mod file;
 mod report;
 
 use crate::failure::Failure;
 use crate::failure::FailureFromError;
+use crate::file::File;
+use crate::file::check_file;
 use crate::report::Report;
 use crate::report::ReportDisplay;
-use crate::report::check_file;
+use commands::Kind;
+use commands::Part;
 use std::env;
 use std::fs;
 
-const USAGE: &str = "usage: proofcheck PROBLEM PROOF";
+const USAGE: &str = "usage: proofcheck [--list] PROBLEM PROOF";
 
-const HELP: &str = "usage: proofcheck PROBLEM PROOF
+const HELP: &str = "usage: proofcheck [--list] PROBLEM PROOF
 
 Checks the problem in the file PROBLEM and its proof in the file PROOF, command by command.
 Each command that is refused has a line of its own,
@@ -20,8 +24,11 @@ Each command that is refused has a line of its own,
     FILE:LINE:COLUMN: refused NUMBER: WORDS, command N, byte B, layer LAYER
 
 where byte B of the command's text, counted from 0, is the first at fault, and N is one more
-than the commands of the file that were accepted before it. A line for each file and a last
-line sum up. The status is 0 where no command is refused, and 1 otherwise.";
+than the commands of the file that were accepted before it. With --list each command that is
+accepted has a line, too, with its form and its name. What solvers write around a problem and a
+proof is skipped: in PROBLEM (check-sat), (get-proof), (exit), (set-option ..) and
+(set-info ..), in PROOF the words unsat and success. A line for each file and a last line sum
+up. The status is 0 where no command is refused, and 1 otherwise.";
 
 /// The bytes of the file `name`.
 fn read(rt: &LibcRuntime, name: &str) -> Result<Vec<u8>, Failure> {
@@ -34,25 +41,36 @@ fn read(rt: &LibcRuntime, name: &str) -> Result<Vec<u8>, Failure> {
     }
 }
 
-/// Checks the file `name`, and prints a line that sums it up.
-fn check(rt: &LibcRuntime, name: &str, text: &[u8]) -> Result<Report, Failure> {
-    let report = check_file(rt, name, text)?;
+/// Checks `file`, which holds `text`, and prints a line that sums it up.
+fn check(rt: &LibcRuntime, file: File<'_>, text: &[u8]) -> Result<Report, Failure> {
+    let report = check_file(rt, file, text)?;
+    let name = file.name;
     println!(rt, "{name}: {report}")?;
     Ok(report)
 }
 
 /// Reads both files, checks them, and prints what came of it.
-fn run(rt: &LibcRuntime, problem: &str, proof: &str) -> Result<(), Failure> {
+fn run(rt: &LibcRuntime, list: bool, problem: &str, proof: &str) -> Result<(), Failure> {
     let claims = read(rt, problem)?;
     let steps = read(rt, proof)?;
-    let first = check(rt, problem, &claims)?;
-    let second = check(rt, proof, &steps)?;
-    let refused = first.refused.saturating_add(second.refused);
+    let problem = File {
+        name: problem,
+        part: Part::Problem,
+        list,
+    };
+    let proof = File {
+        name: proof,
+        part: Part::Proof,
+        list,
+    };
+    let first = check(rt, problem, &claims)?.count(Kind::Refused);
+    let second = check(rt, proof, &steps)?.count(Kind::Refused);
+    let refused = first.saturating_add(second);
     if refused > 0 {
         println!(rt, "commands refused: {refused}")?;
         return Err(Failure::Refused);
     }
-    println!(rt, "all commands have passed the token layer")?;
+    println!(rt, "all commands have passed the token and form layers")?;
     Ok(())
 }
 
@@ -64,7 +82,12 @@ fn misused(rt: &LibcRuntime) -> Result<(), Failure> {
 
 fn main(rt: LibcRuntime) -> Result<(), Failure> {
     let mut args = env::args(&rt)?.skip(1);
-    let Some(problem) = args.next() else {
+    let mut first = args.next();
+    let list = first.as_deref() == Some("--list");
+    if list {
+        first = args.next();
+    }
+    let Some(problem) = first else {
         return misused(&rt);
     };
     if problem.as_str() == "--help" {
@@ -77,5 +100,5 @@ fn main(rt: LibcRuntime) -> Result<(), Failure> {
     if args.next().is_some() {
         return misused(&rt);
     }
-    run(&rt, problem.as_str(), proof.as_str())
+    run(&rt, list, problem.as_str(), proof.as_str())
 }

@@ -1,75 +1,92 @@
-//! One file: its commands through the layers, and what came of them.
-use pieces::Cutter;
-use pieces::Position;
-use pieces::line_column;
+//! What was found in a file: how often each kind of outcome.
+use commands::Kind;
+use commands::Outcome;
+use commands::Part;
 use std::fmt;
-use std::io;
-use text::TokenFault;
-use text::TokenFaultDisplay;
-use text::scan;
-ghost use Rattle.std.specs.Vec.{made};
-ghost use Rattle.pieces.specs.Pieces.{pieces};
-ghost use Rattle.proofcheck.specs.Tally.{Tallied};
+ghost use mathlib.Core.Path.{_≡_};
+ghost use Prim.Native.Nat.{_+_, _^_, _<_};
+ghost use lib.ListN.{length, getD, set};
+ghost use Rattle.commands.specs.Outcomes.{number, kindOf, commandCount, tokenCount};
 
-/// What was found in a file.
-#[derive(Clone, Copy, Debug)]
+/// The outcomes of a part, counted: `commands` and `tokens` are those of accepted commands, and
+/// `counts` has a place for each kind.
+#[derive(Clone, Copy)]
 pub struct Report {
+    part: Part,
     pub commands: usize,
-    pub tokens: usize,
-    pub refused: usize,
+    tokens: usize,
+    counts: [usize; 9],
+    ghost full: { length counts ≡ 9 },
+}
+
+impl Report {
+    pub fn new(part: Part) -> Report
+        ensures commands { λ r. ⌜ r .commands ≡ 0 ⌝ }
+        ensures tokens { λ r. ⌜ r .tokens ≡ 0 ⌝ }
+        ensures counts { λ r. ⌜ ((k : Kind) → getD (r .counts) (number k) 0 ≡ 0) ⌝ }
+    {
+        Report {
+            part,
+            commands: 0,
+            tokens: 0,
+            counts: [0; 9],
+        }
+    }
+
+    /// How many outcomes were of the kind `kind`.
+    pub fn count(&self, kind: Kind) -> usize
+        ensures { λ r. ⌜ r ≡ getD (now (self .entry) .counts) (number kind) 0 ⌝ }
+    {
+        self.counts[kind.index()]
+    }
+
+    /// Counts one more outcome.
+    pub fn add(&mut self, outcome: Outcome<'_>)
+        requires commands { ⌜ now self .commands + 1 < 2 ^ 64 ⌝ }
+        requires tokens { ⌜ now self .tokens + tokenCount outcome < 2 ^ 64 ⌝ }
+        requires counts { ⌜ getD (now self .counts) (number (kindOf outcome)) 0 + 1 < 2 ^ 64 ⌝ }
+        ensures commands { λ _. ⌜ now (self .exit) .commands ≡ now (self .entry) .commands + commandCount (outcome .entry) ⌝ }
+        ensures tokens { λ _. ⌜ now (self .exit) .tokens ≡ now (self .entry) .tokens + tokenCount (outcome .entry) ⌝ }
+        ensures counts { λ _. ⌜ now (self .exit) .counts ≡ set (now (self .entry) .counts) (number (kindOf (outcome .entry))) (getD (now (self .entry) .counts) (number (kindOf (outcome .entry))) 0 + 1) ⌝ }
+    {
+        self.commands += outcome.accepted();
+        self.tokens += outcome.tokens();
+        self.counts[outcome.kind().index()] += 1;
+    }
+}
+
+/// The counts of the forms of the report's part.
+fn show_forms<W: fmt::Write>(report: &Report, f: &mut fmt::Formatter<W>) -> fmt::Result {
+    match report.part {
+        Part::Problem => write!(
+            f,
+            "{} set-logic, {} declare-sort, {} declare-fun, {} assert",
+            report.count(Kind::SetLogic),
+            report.count(Kind::DeclareSort),
+            report.count(Kind::DeclareFun),
+            report.count(Kind::Assert)
+        ),
+        Part::Proof => write!(
+            f,
+            "{} assume, {} step, {} anchor",
+            report.count(Kind::Assume),
+            report.count(Kind::Step),
+            report.count(Kind::Anchor)
+        ),
+    }
 }
 
 pub impl fmt::Display for Report as ReportDisplay {
     fn fmt<W: fmt::Write>(&self, f: &mut fmt::Formatter<W>) -> fmt::Result {
-        let Report {
-            commands,
-            tokens,
-            refused,
-        } = *self;
-        write!(f, "{commands} commands, {tokens} tokens, {refused} refused")
+        let commands = self.commands;
+        let tokens = self.tokens;
+        let skipped = self.count(Kind::Skipped);
+        let refused = self.count(Kind::Refused);
+        write!(f, "{commands} commands (")?;
+        show_forms(self, f)?;
+        write!(
+            f,
+            "), {tokens} tokens, {skipped} skipped, {refused} refused"
+        )
     }
-}
-
-/// Prints the refusal of the command number `command` of the file `name`, at fault in `place`.
-fn print_refusal(
-    rt: &LibcRuntime,
-    name: &str,
-    place: Position,
-    command: usize,
-    fault: TokenFault,
-) -> io::Result<()> {
-    let Position { line, column, .. } = place;
-    let number = fault.number();
-    let byte = fault.place();
-    println!(
-        rt,
-        "{name}:{line}:{column}: refused {number}: {fault}, command {command}, byte {byte}, layer tokens"
-    )
-}
-
-/// Runs the token layer over each command of `text`, and prints a line for each refusal.
-pub fn check_file(rt: &LibcRuntime, name: &str, text: &[u8]) -> io::Result<Report>
-    ensures { λ r. ⌜ made r (Tallied (pieces (now (text .entry)))) ⌝ }
-{
-    let mut report = Report {
-        commands: 0,
-        tokens: 0,
-        refused: 0,
-    };
-    let mut place = Position::start();
-    let mut cutter = Cutter::new(text);
-    while let Some(piece) = cutter.next() {
-        match scan(piece.text) {
-            Ok(tokens) => {
-                report.commands += 1;
-                report.tokens += tokens;
-            }
-            Err(fault) => {
-                place = line_column(text, place, piece.at.saturating_add(fault.place()));
-                print_refusal(rt, name, place, report.commands + 1, fault)?;
-                report.refused += 1;
-            }
-        }
-    }
-    Ok(report)
 }

@@ -2,7 +2,7 @@ use Prim.Native.Nat.{_+_, _-_, _≤_}
 use mathlib.Core.Path.{_≡_}
 use lib.ListN.{length, take}
 use Rattle.pieces.specs.Positions.{lineAfter, columnAfter}
-use Rattle.pieces.proofs.position.line_column.Given as given
+use Rattle.pieces.proofs.lines.count_on.Given as given
 
 abbrev pub Inv-loop-i : given.InvT-loop-i
 Inv-loop-i l =

@@ -2,17 +2,16 @@ use native.Mathlib.Omega.{arith}
 use mathlib.Core.Path.{_≡_, ap}
 use lib.ListN.{take}
 use Rattle.pieces.specs.Positions.{lineAfter, columnAfter, positionOf}
-use Rattle.pieces.proofs.Lines.{at-feed, at-other, at-end, line-le, column-le}
-use Rattle.pieces.proofs.position.line_column.Needs as need
-use Rattle.pieces.proofs.position.line_column.Needs.{then-text-i-eq10, else-text-i-eq10}
+use Rattle.pieces.proofs.Feeds.{at-feed, at-other, at-end, line-le, column-le}
+use Rattle.pieces.proofs.lines.count_on.Needs as need
+use Rattle.pieces.proofs.lines.count_on.Needs.{then-text-i-eq10, else-text-i-eq10}
 
 pub loop-i-holds : need.loop-i-holds
 loop-i-holds c =
-    let from = c .before-from .result in
-    let is : from ≡ positionOf (c .args .text .now) (from .at) = c .before-from .ensures .placed (c .args .text .now) (c .pre) in
-    let line : from .line ≡ lineAfter (take (from .at) (c .args .text .now)) = ap (λ p. p .line) is in
-    let column : from .column ≡ columnAfter (take (from .at) (c .args .text .now)) = ap (λ p. p .column) is in
-    (c .before-from .ensures .low, line, column, omega (arith, line, line-le (c .args .text .now) (from .at)), omega (arith, column, column-le (c .args .text .now) (from .at)))
+    let near = c .args .near in
+    let line : near .line ≡ lineAfter (take (near .at) (c .args .text .now)) = ap (λ p. p .line) (c .pre .placed) in
+    let column : near .column ≡ columnAfter (take (near .at) (c .args .text .now)) = ap (λ p. p .column) (c .pre .placed) in
+    (c .pre .low, line, column, omega (arith, line, line-le (c .args .text .now) (near .at)), omega (arith, column, column-le (c .args .text .now) (near .at)))
 
 pub loop-i-again : need.loop-i-again
 loop-i-again c =
@@ -29,5 +28,4 @@ loop-i-again c =
 pub returns-else-i-text : need.returns-else-i-text
 returns-else-i-text c =
     let inv = c .loop-i .inv in
-    let is = at-end (c .args .text .now) _ (c .args .at) _ _ (c .if-i-text .left) (inv .0) (inv .1) (inv .2) in
-    record { value = is; placed = is }
+    at-end (c .args .text .now) _ (c .args .at) _ _ (c .if-i-text .left) (inv .0) (inv .1) (inv .2)

@@ -1,0 +1,34 @@
+-- Solver chatter: what solvers write around problems and proofs, decided by tokens.
+use mathlib.Core.List.{List, [], _∷_}
+use mathlib.Core.Logic.{_⊎_}
+use mathlib.Core.Path.{_≡_}
+use Prim.Native.Nat.{ℕ}
+use lib.Chars.{codes}
+use Rattle.text.specs.Tokens.{Tok, opens, closes, symbol}
+use Rattle.commands.specs.declared.part.Part.{Part}
+use Rattle.commands.specs.declared.part.Part.the-variants.{Problem, Proof}
+
+-- The words that a solver answers with.
+abbrev pub Answer : List ℕ → Type 0
+Answer word = (word ≡ codes "unsat") ⊎ (word ≡ codes "success")
+
+-- The words that ask it for something.
+abbrev pub Request : List ℕ → Type 0
+Request word = (word ≡ codes "check-sat") ⊎ ((word ≡ codes "get-proof") ⊎ (word ≡ codes "exit"))
+
+-- The words that set it up.
+abbrev pub Setting : List ℕ → Type 0
+Setting word = (word ≡ codes "set-option") ⊎ (word ≡ codes "set-info")
+
+-- In the proof file: an answer alone.
+pub data Answers (tokens : List Tok) : Type 0 where
+  answer : (at : ℕ) (word : List ℕ) → Answer word → tokens ≡ symbol at word ∷ [] → Answers tokens
+
+-- In the problem file: a request alone in brackets, or a bracket and a setting, and whatever follows.
+pub data Requests (tokens : List Tok) : Type 0 where
+  request : (at head : ℕ) (word : List ℕ) (end : ℕ) → Request word → tokens ≡ opens at ∷ symbol head word ∷ closes end ∷ [] → Requests tokens
+  setting : (at head : ℕ) (word : List ℕ) (rest : List Tok) → Setting word → tokens ≡ opens at ∷ symbol head word ∷ rest → Requests tokens
+
+abbrev pub Chatter : Part → List Tok → Type 0
+Chatter Problem tokens = Requests tokens
+Chatter Proof tokens = Answers tokens
