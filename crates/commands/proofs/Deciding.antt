@@ -1,5 +1,5 @@
 -- Chatter is decided token by token.
-use mathlib.Core.Bool.{Bool, true, false}
+use mathlib.Core.Bool.{Bool, true, false, _&&_}
 use mathlib.Core.List.{List, [], _∷_}
 use mathlib.Core.Path.{_≡_, refl, sym, _∙_, ap, subst}
 use Prim.Native.Nat.{ℕ}
@@ -7,9 +7,11 @@ use Rattle.std.specs.Options.{Cases as BySome, isSome}
 use Rattle.std.specs.Orderings.{Decides}
 use Rattle.std.specs.declared.option.Option.{Option}
 use Rattle.std.specs.declared.option.Option.the-variants.{Some, None}
-use Rattle.text.specs.Tokens.{Tok, opens, closes, symbol}
+use Rattle.std.proofs.shelf.Ways.{decides-and}
+use Rattle.text.specs.Tokens.{Tok, opens, closes, symbol, tokens}
+use Rattle.pieces.specs.Laws.{Balanced}
 use Rattle.text.proofs.Places.{off}
-use Rattle.commands.specs.Chatter.{Answer, Request, Setting, Answers, answer, Requests, request, setting, Chatter}
+use Rattle.commands.specs.Chatter.{Answer, Request, Setting, Answers, answer, Requests, request, setting, Speech, Chatter}
 use Rattle.commands.specs.declared.part.Part.{Part}
 use Rattle.commands.specs.declared.part.Part.the-variants.{Problem, Proof}
 
@@ -42,12 +44,17 @@ module _ (ts first rest : List Tok) (at head : ℕ) (word : List ℕ) (e : ts �
   pub request-decides : (s : Bool) → s ≡ false → Decides s (Setting word) → Request word → (end : Option ℕ) → BySome end ((k : ℕ) → rest ≡ closes k ∷ [] → ⊥) (λ k. rest ≡ closes k ∷ []) → (b : Bool) → b ≡ isSome end → Decides b (Requests ts)
   request-decides s not-set d is end h b e′ = subst (λ z. Decides z (Requests ts)) (sym e′) (closes-it s not-set d is end h)
 
-pub chatter-problem : (p : Part) (ts l : List Tok) (b : Bool) → p ≡ Problem → l ≡ ts → Decides b (Requests l) → Decides b (Chatter p ts)
+pub chatter-problem : (p : Part) (ts l : List Tok) (b : Bool) → p ≡ Problem → l ≡ ts → Decides b (Requests l) → Decides b (Speech p ts)
 chatter-problem p ts l b is e d =
-    let D : Part → List Tok → Type 0 = λ q us. Decides b (Chatter q us) in
+    let D : Part → List Tok → Type 0 = λ q us. Decides b (Speech q us) in
     subst (λ q. D q ts) (sym is) (subst (D Problem) e d)
 
-pub chatter-proof : (p : Part) (ts l : List Tok) (b : Bool) → p ≡ Proof → l ≡ ts → Decides b (Answers l) → Decides b (Chatter p ts)
+pub chatter-proof : (p : Part) (ts l : List Tok) (b : Bool) → p ≡ Proof → l ≡ ts → Decides b (Answers l) → Decides b (Speech p ts)
 chatter-proof p ts l b is e d =
-    let D : Part → List Tok → Type 0 = λ q us. Decides b (Chatter q us) in
+    let D : Part → List Tok → Type 0 = λ q us. Decides b (Speech q us) in
     subst (λ q. D q ts) (sym is) (subst (D Proof) e d)
+
+pub whole-speech : (p : Part) (text : List ℕ) (x y : Bool) → Decides x (Balanced text) → Decides y (Speech p (tokens text)) → Decides (y && x) (Chatter p text)
+whole-speech p text x y d e =
+    let both = decides-and y x e d in
+    ((λ h. let parts = both .0 h in record { whole = parts .1; speech = parts .0 }), λ h. both .1 (h .speech, h .whole))

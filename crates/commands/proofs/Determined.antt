@@ -4,7 +4,7 @@ use mathlib.Core.Path.{_≡_, refl, sym, _∙_, ap}
 use Prim.Native.Nat.{ℕ}
 use Rattle.std.specs.declared.option.Option.the-variants.{Some, None}
 use Rattle.std.specs.declared.result.Result.the-variants.{Ok, Err}
-use Rattle.text.specs.Tokens.{Tok, firstFault}
+use Rattle.text.specs.Tokens.{Tok, firstFault, tokens}
 use Rattle.text.specs.declared.token.TokenFault.{TokenFault}
 use Rattle.text.proofs.Places.{off}
 use Rattle.forms.specs.Faults.{tooDeep}
@@ -78,15 +78,15 @@ form-or-fault part.Proof ts (Problem f) x h k = h
 form-or-fault part.Proof ts (Proof f) (TooDeep at) h k = deep ts at (h .0) k
 form-or-fault part.Proof ts (Proof f) NoForm h k = k .1 (h .1 .0) (h .1 .1) (h .1 .2)
 
-pub determined : (p : Part) (ts : List Tok) (a b : Outcome) → Comes p ts a → Comes p ts b → Alike a b
-determined p ts Skipped Skipped h k = (refl, refl, refl)
-determined p ts Skipped (Accepted d) h k = absurd (k .0 h)
-determined p ts Skipped (Refused y) h k = absurd (k .0 h)
-determined p ts (Accepted c) Skipped h k = absurd (h .0 k)
-determined p ts (Accepted c) (Accepted d) h k = (forms-alike p ts (c .form) (d .form) (h .1 .2) (k .1 .2), refl, h .1 .1 ∙ sym (k .1 .1))
-determined p ts (Accepted c) (Refused (Token f)) h k = absurd (faulty ts f (h .1 .0) (k .1))
-determined p ts (Accepted c) (Refused (Formal f)) h k = absurd (form-or-fault p ts (c .form) f (h .1 .2) (k .1 .1))
-determined p ts (Refused x) Skipped h k = absurd (h .0 k)
-determined p ts (Refused (Token f)) (Accepted d) h k = absurd (faulty ts f (k .1 .0) (h .1))
-determined p ts (Refused (Formal f)) (Accepted d) h k = absurd (form-or-fault p ts (d .form) f (k .1 .2) (h .1 .1))
-determined p ts (Refused x) (Refused y) h k = (refl, refl, refl)
+pub determined : (p : Part) (text : List ℕ) (a b : Outcome) → Comes p text a → Comes p text b → Alike a b
+determined p text Skipped Skipped h k = (refl, refl, refl)
+determined p text Skipped (Accepted d) h k = absurd (k .0 h)
+determined p text Skipped (Refused y) h k = absurd (k .0 h)
+determined p text (Accepted c) Skipped h k = absurd (h .0 k)
+determined p text (Accepted c) (Accepted d) h k = (forms-alike p (tokens text) (c .form) (d .form) (h .1 .2) (k .1 .2), refl, h .1 .1 ∙ sym (k .1 .1))
+determined p text (Accepted c) (Refused (Token f)) h k = absurd (faulty (tokens text) f (h .1 .0) (k .1))
+determined p text (Accepted c) (Refused (Formal f)) h k = absurd (form-or-fault p (tokens text) (c .form) f (h .1 .2) (k .1 .1))
+determined p text (Refused x) Skipped h k = absurd (h .0 k)
+determined p text (Refused (Token f)) (Accepted d) h k = absurd (faulty (tokens text) f (k .1 .0) (h .1))
+determined p text (Refused (Formal f)) (Accepted d) h k = absurd (form-or-fault p (tokens text) (d .form) f (k .1 .2) (h .1 .1))
+determined p text (Refused x) (Refused y) h k = (refl, refl, refl)

@@ -6,7 +6,7 @@ use lib.ListN.{length}
 use Rattle.std.specs.declared.option.Option.the-variants.{Some, None}
 use Rattle.std.specs.declared.result.Result.{Result}
 use Rattle.std.specs.declared.result.Result.the-variants.{Ok, Err}
-use Rattle.text.specs.Tokens.{Tok, firstFault}
+use Rattle.text.specs.Tokens.{Tok, firstFault, tokens}
 use Rattle.forms.specs.Forms.{spellProblem, FitProblem, spellProof, FitProof}
 use Rattle.forms.specs.Parsed.{keptProblem, seenProblem, keptProof, seenProof}
 use Rattle.forms.specs.Layer.{Layer}
@@ -43,10 +43,10 @@ Examined p ts (Err (fault-of.Form f)) = (firstFault ts ≡ None) × OfForm p ts 
 Examined p ts (Ok command) = (firstFault ts ≡ None) × (command .tokens ≡ length ts) × OfForm p ts (Ok (command .form))
 
 -- Chatter is skipped, and all else is examined.
-abbrev pub Comes : Part → List Tok → Outcome → Type 0
-Comes p ts Skipped = Chatter p ts
-Comes p ts (Accepted command) = (Chatter p ts → ⊥) × Examined p ts (Ok command)
-Comes p ts (Refused f) = (Chatter p ts → ⊥) × Examined p ts (Err f)
+abbrev pub Comes : Part → List ℕ → Outcome → Type 0
+Comes p text Skipped = Chatter p text
+Comes p text (Accepted command) = (Chatter p text → ⊥) × Examined p (tokens text) (Ok command)
+Comes p text (Refused f) = (Chatter p text → ⊥) × Examined p (tokens text) (Err f)
 
 -- Which form it is.
 abbrev pub formKind : Form → Kind
@@ -93,8 +93,8 @@ abbrev pub Alike : Outcome → Outcome → Type 0
 Alike a b = (kindOf a ≡ kindOf b) × (commandCount a ≡ commandCount b) × (tokenCount a ≡ tokenCount b)
 
 -- All that a command can come to is counted alike.
-abbrev pub Determined : Part → List Tok → Type 0
-Determined p ts = (a b : Outcome) → Comes p ts a → Comes p ts b → Alike a b
+abbrev pub Determined : Part → List ℕ → Type 0
+Determined p text = (a b : Outcome) → Comes p text a → Comes p text b → Alike a b
 
 -- The byte to point at: the one at fault, or else the first.
 abbrev pub placeOf : Outcome → ℕ

@@ -4,13 +4,14 @@ use forms::closing;
 use forms::open;
 use forms::same;
 use forms::symbol;
+use pieces::balances;
 use text::Reader;
 ghost use mathlib.Core.List.{[]};
 ghost use mathlib.Core.Path.{_≡_};
 ghost use Rattle.std.specs.Orderings.{Decides};
 ghost use Rattle.text.specs.Reading.{left};
 ghost use Rattle.text.specs.Tokens.{tokens};
-ghost use Rattle.commands.specs.Chatter.{Answer, Request, Setting, Answers, Requests, Chatter};
+ghost use Rattle.commands.specs.Chatter.{Answer, Request, Setting, Answers, Requests, Speech, Chatter};
 
 /// Whether a solver answers with `word`.
 fn answers(word: &[u8]) -> bool
@@ -66,12 +67,19 @@ fn is_request(reader: Reader<'_>) -> bool
     settles(word.text) || requests(word.text) && closing(rest).is_some()
 }
 
-/// Whether the tokens of `text` are solver chatter in this part.
-pub fn is_chatter(part: Part, text: &[u8]) -> bool
-    ensures { λ r. ⌜ Decides r (Chatter part (tokens (now (text .entry)))) ⌝ }
+/// Whether the tokens of `text` are what solvers say in this part.
+fn is_speech(part: Part, text: &[u8]) -> bool
+    ensures { λ r. ⌜ Decides r (Speech part (tokens (now (text .entry)))) ⌝ }
 {
     match part {
         Part::Problem => is_request(Reader::new(text)),
         Part::Proof => is_answer(Reader::new(text)),
     }
+}
+
+/// Whether `text` is solver chatter in this part. A text whose brackets do not balance is none.
+pub fn is_chatter(part: Part, text: &[u8]) -> bool
+    ensures { λ r. ⌜ Decides r (Chatter part (now (text .entry))) ⌝ }
+{
+    is_speech(part, text) && balances(text)
 }

@@ -81,8 +81,8 @@ pub fn examine<'a>(part: Part, text: &'a [u8]) -> Result<Command<'a>, Fault>
 
 /// What the command `text` of the part `part` comes to.
 pub fn outcome_of<'a>(part: Part, text: &'a [u8]) -> Outcome<'a>
-    ensures value { λ r. ⌜ Comes part (tokens (now (text .entry))) r ⌝ }
-    ensures determined { λ _. ⌜ Determined part (tokens (now (text .entry))) ⌝ }
+    ensures value { λ r. ⌜ Comes part (now (text .entry)) r ⌝ }
+    ensures determined { λ _. ⌜ Determined part (now (text .entry)) ⌝ }
 {
     if is_chatter(part, text) {
         return Outcome::Skipped;

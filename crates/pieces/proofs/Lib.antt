@@ -1,3 +1,4 @@
+pub mod Tallies
 pub mod Balance
 pub mod Closing
 pub mod Cutting

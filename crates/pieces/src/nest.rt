@@ -5,7 +5,7 @@ ghost use lib.ListN.{length, drop};
 ghost use Rattle.pieces.specs.Pieces.{commentBehind, depthBehind, enclosed};
 
 /// Whether a comment goes on behind the byte `b`.
-fn comment_behind(comment: bool, b: u8) -> bool
+pub fn comment_behind(comment: bool, b: u8) -> bool
     ensures { λ r. ⌜ r ≡ commentBehind comment b ⌝ }
 {
     match b as char {

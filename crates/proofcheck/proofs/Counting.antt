@@ -64,7 +64,7 @@ few-commands (Accepted command) = omega arith
 few-commands (Refused f) = omega arith
 
 -- a command has no more tokens than bytes
-tokens-fit : (part : Part) (bytes : List ℕ) (o : Outcome) → Comes part (tokens bytes) o → tokenCount o ≤ length bytes
+tokens-fit : (part : Part) (bytes : List ℕ) (o : Outcome) → Comes part bytes o → tokenCount o ≤ length bytes
 tokens-fit part bytes Skipped comes = omega arith
 tokens-fit part bytes (Accepted command) comes = omega (arith, comes .1 .1, few-tokens bytes)
 tokens-fit part bytes (Refused f) comes = omega arith
@@ -94,7 +94,7 @@ module _ (part : Part) (all was after : List Piece) (long : ℕ) (report : Repor
   pub room-kind : (k : Kind) → of report k + 1 ≤ long
   room-kind k = omega (arith, h .few-kinds k, ap length e)
 
-  module _ (o : Outcome) (comes : Comes part (tokens (p .bytes)) o) where
+  module _ (o : Outcome) (comes : Comes part (p .bytes) o) where
     pub room-tokens : report .tokens + tokenCount o ≤ long
     room-tokens = omega (arith, h .fits, sized, tokens-fit part (p .bytes) o comes)
 

@@ -7,7 +7,6 @@ use lib.Dec.{eqb}
 use lib.ListN.{getD}
 use Rattle.std.specs.shelf.Lists.{countBy, sumBy}
 use Rattle.text.specs.Parts.{Part as Piece}
-use Rattle.text.specs.Tokens.{tokens}
 use Rattle.commands.specs.Outcomes.{Comes, kindOf, number, commandCount, tokenCount}
 use Rattle.commands.specs.declared.kind.Kind.{Kind}
 use Rattle.commands.specs.declared.outcome.Outcome.{Outcome}
@@ -19,7 +18,7 @@ abbrev pub Each : Part → List Piece → List Outcome → Type 0
 Each part [] [] = Unit {0}
 Each part [] (o ∷ os) = ⊥
 Each part (p ∷ ps) [] = ⊥
-Each part (p ∷ ps) (o ∷ os) = Comes part (tokens (p .bytes)) o × Each part ps os
+Each part (p ∷ ps) (o ∷ os) = Comes part (p .bytes) o × Each part ps os
 
 -- Whether an outcome is of a kind.
 abbrev pub isOf : Kind → Outcome → Bool

@@ -1,5 +1,4 @@
 use borrow.Author.Needs.{needs}
-use Rattle.text.specs.Tokens.{tokens}
 use Rattle.commands.specs.Outcomes.{Comes}
 use Rattle.commands.specs.declared.outcome.Outcome.the-variants.{Skipped, Accepted, Refused}
 use Rattle.commands.proofs.Determined.{determined}
@@ -7,15 +6,15 @@ use Rattle.commands.proofs.outcome.outcome_of.Needs as need
 
 pub returns-then-is-chatter : need.returns-then-is-chatter
 returns-then-is-chatter c =
-    let value : Comes (c .args .part) (tokens (c .args .text .now)) Skipped = search needs in
-    record { value = value; determined = determined (c .args .part) (tokens (c .args .text .now)) }
+    let value : Comes (c .args .part) (c .args .text .now) Skipped = search needs in
+    record { value = value; determined = determined (c .args .part) (c .args .text .now) }
 
 pub returns-in-Ok : need.returns-in-Ok
 returns-in-Ok c =
-    let value : Comes (c .args .part) (tokens (c .args .text .now)) (Accepted (c .in-Ok .command)) = search needs in
-    record { value = value; determined = determined (c .args .part) (tokens (c .args .text .now)) }
+    let value : Comes (c .args .part) (c .args .text .now) (Accepted (c .in-Ok .command)) = search needs in
+    record { value = value; determined = determined (c .args .part) (c .args .text .now) }
 
 pub returns-in-Err : need.returns-in-Err
 returns-in-Err c =
-    let value : Comes (c .args .part) (tokens (c .args .text .now)) (Refused (c .in-Err .fault)) = search needs in
-    record { value = value; determined = determined (c .args .part) (tokens (c .args .text .now)) }
+    let value : Comes (c .args .part) (c .args .text .now) (Refused (c .in-Err .fault)) = search needs in
+    record { value = value; determined = determined (c .args .part) (c .args .text .now) }

@@ -1,5 +1,5 @@
 use Rattle.commands.proofs.Deciding.{chatter-problem, chatter-proof}
-use Rattle.commands.proofs.chatter.is_chatter.Needs as need
+use Rattle.commands.proofs.chatter.is_speech.Needs as need
 
 pub returns-in-Problem : need.returns-in-Problem
 returns-in-Problem c = chatter-problem (c .args .part) _ _ _ (c .in-Problem .is) (c .new .ensures .all) (c .is-request .ensures)
