@@ -73,6 +73,10 @@ pub record Declares (text : List ℕ) (f : Entry) (t : DeclareFun) : Type 0 wher
   pub spelt : tokens text ≡ spellProblem (declare-fun at head t)
   pub same : f ≡ keptDeclareFun t
 
+-- A text is the declaration of a function, and f is what is kept of it.
+abbrev pub IsDeclaration : List ℕ → Entry → Type 0
+IsDeclaration text f = (t : DeclareFun) × Declares text f t
+
 -- What was read into a memory: sorts at its first n places.
 abbrev pub sortsRead : Result ℕ TermFault → List Sort → Result (List Sort) TermFault
 sortsRead (Ok n) memory = Ok (take n memory)
@@ -87,3 +91,8 @@ ReadsSorts sorts tokens r memory =
 -- What is made of a text is made of the declaration that it is.
 abbrev pub Makes : List ℕ → Entry → List (List ℕ) → Result Name TermFault → Type 0
 Makes text f sorts r = (t : DeclareFun) → Declares text f t → mapped nameOf (λ fault. fault) r ≡ signature sorts t
+
+-- Of the declaration that a text is, with names in a memory, of which there are m before and m′ after.
+abbrev pub DeclaresFun : List ℕ → Entry → List Symbol → ℕ → List Name → ℕ → Result (Unit {0}) TermFault → List Name → ℕ → Type 0
+DeclaresFun text f sorts n names m r names′ m′ =
+    (t : DeclareFun) → Declares text f t → (r, namesOf names′ m′) ≡ declareFun (room 512 names) (wordsOf sorts n) (namesOf names m) t

@@ -7,9 +7,11 @@ mod signature;
 mod table;
 mod words;
 
+pub use declare::declare_fun;
 pub use declare::declare_sort;
 pub use fault::TermFault;
 pub use fault::TermFaultDisplay;
+pub use function::Function;
 pub use known::name_named;
 pub use known::sort_named;
 pub use words::is_reserved;
