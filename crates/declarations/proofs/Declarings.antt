@@ -10,15 +10,15 @@ use Rattle.entries.specs.declared.entry.Symbol.{Symbol}
 use Rattle.entries.specs.declared.entry.Name.{Name}
 use Rattle.entries.specs.Views.{NameView, wordOf, wordsOf, nameOf, namesOf}
 use Rattle.forms.specs.Forms.{Named, DeclareFun}
-use Rattle.declarations.specs.Declaring.{Outcome, atEnd, declareSort}
-use Rattle.declarations.specs.Functions.{signature, filed, declareFun}
+use Rattle.declarations.specs.Declaring.{Outcome, refused, atEnd, declareSort, filed, declareFun}
+use Rattle.declarations.specs.Signatures.{signature}
 use Rattle.declarations.specs.Known.{kept, isTaken}
 use Rattle.declarations.specs.declared.fault.TermFault.{TermFault}
-use Rattle.declarations.specs.declared.fault.TermFault.the-variants.{Declared, Full}
+use Rattle.declarations.specs.declared.fault.TermFault.the-variants.{Taken, Full}
 use Rattle.declarations.proofs.Ends.{end-full, end-added}
 
 module _ (memory : List Symbol) (n most : ℕ) (names : List NameView) (w : Named) where
-  pub sort-taken : true ≡ isTaken (wordsOf memory n) names (w .bytes) → (Err (Declared (w .at)), wordsOf memory n) ≡ declareSort most (wordsOf memory n) names w
+  pub sort-taken : true ≡ isTaken (wordsOf memory n) names (w .bytes) → (Err (Taken (w .at)), wordsOf memory n) ≡ declareSort most (wordsOf memory n) names w
   sort-taken e = sym (cond-true _ _ _ (sym e))
 
   pub sort-full : n ≤ length memory → most ≤ n → false ≡ isTaken (wordsOf memory n) names (w .bytes) → (Err (Full (w .at)), wordsOf memory n) ≡ declareSort most (wordsOf memory n) names w
@@ -29,11 +29,10 @@ module _ (memory : List Symbol) (n most : ℕ) (names : List NameView) (w : Name
 
 -- a function, where the word that the code has is the declaration's
 module _ (sorts : List (List ℕ)) (memory : List Name) (n most : ℕ) (t : DeclareFun) (w : Named) (is : w ≡ t .function) where
-  pub fun-taken : true ≡ isTaken sorts (namesOf memory n) (w .bytes) → (Err (Declared (w .at)), namesOf memory n) ≡ declareFun most sorts (namesOf memory n) t
+  pub fun-taken : true ≡ isTaken sorts (namesOf memory n) (w .bytes) → (Err (Taken (w .at)), namesOf memory n) ≡ declareFun most sorts (namesOf memory n) t
   fun-taken e =
       let taken : isTaken sorts (namesOf memory n) (t .function .bytes) ≡ true = sym (e ∙ ap (λ (u : Named). isTaken sorts (namesOf memory n) (u .bytes)) is) in
-      let refused : Named → Outcome NameView = λ u. (Err (Declared (u .at)), namesOf memory n) in
-      ap refused is ∙ sym (cond-true _ _ _ taken)
+      ap (λ (u : Named). refused (Taken (u .at)) (namesOf memory n)) is ∙ sym (cond-true _ _ _ taken)
 
   module _ (e : false ≡ isTaken sorts (namesOf memory n) (w .bytes)) where
     free : filed most (namesOf memory n) (w .at) (signature sorts t) ≡ declareFun most sorts (namesOf memory n) t

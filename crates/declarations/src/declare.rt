@@ -9,8 +9,7 @@ use entries::limits::MOST_NAMES;
 use entries::limits::MOST_SORTS;
 use forms::Word;
 ghost use Rattle.forms.specs.Parsed.{named};
-ghost use Rattle.declarations.specs.Declaring.{DeclaresSort};
-ghost use Rattle.declarations.specs.Functions.{seenFunction, IsDeclaration, DeclaresFun};
+ghost use Rattle.declarations.specs.Calls.{DeclaresSort, seenFunction, IsDeclaration, DeclaresFun};
 ghost use Rattle.declarations.specs.Lists.{Within};
 
 /// `(declare-sort word 0)`: one more sort, unless the word is taken or the list is full.
@@ -27,7 +26,7 @@ pub fn declare_sort(
 {
     let end = *sort_count;
     if is_taken(sorts, end, names, name_count, word.text) {
-        return Err(TermFault::Declared { at: word.at });
+        return Err(TermFault::Taken { at: word.at });
     }
     if end >= MOST_SORTS.min(sorts.len()) {
         return Err(TermFault::Full { at: word.at });
@@ -55,7 +54,7 @@ pub fn declare_fun(
     let end = *name_count;
     let at = declared.name.at;
     if is_taken(sorts, sort_count, names, end, declared.name.text) {
-        return Err(TermFault::Declared { at });
+        return Err(TermFault::Taken { at });
     }
     let name = signature(text, sorts, sort_count, declared)?;
     if end >= MOST_NAMES.min(names.len()) {

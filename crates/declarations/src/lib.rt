@@ -5,6 +5,8 @@ mod function;
 mod known;
 mod signature;
 mod table;
+#[cfg(test)]
+mod tests;
 mod words;
 
 pub use declare::declare_fun;

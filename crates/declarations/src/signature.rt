@@ -17,7 +17,8 @@ ghost use Rattle.entries.specs.Views.{wordsOf};
 ghost use Rattle.forms.specs.Parsed.{named};
 ghost use Rattle.forms.specs.Takes.{TakesSymbol};
 ghost use Rattle.text.specs.Reading.{left};
-ghost use Rattle.declarations.specs.Functions.{sortOf, ReadsSorts, Makes, seenFunction};
+ghost use Rattle.declarations.specs.Calls.{seenFunction, Makes, ReadsSorts};
+ghost use Rattle.declarations.specs.Signatures.{sortOf};
 
 /// The next token, if it is a symbol, and the reader after it.
 fn symbol<'a>(mut reader: Reader<'a>) -> Option<(Word<'a>, Reader<'a>)>

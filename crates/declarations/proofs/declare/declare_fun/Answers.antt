@@ -16,8 +16,8 @@ returns-then-is-taken c =
     let f = c .args .declared in
     record {
       declares = λ t d.
-      fun-taken sorts memory (c .args .name-count .now) (room 512 memory) t (named (f .name))
-      (same-name (c .args .text .now) (named (f .name)) (f .takes) (named (f .gives)) t d) (c .if-is-taken .ensures tt);
+          fun-taken sorts memory (c .args .name-count .now) (room 512 memory) t (named (f .name))
+          (same-name (c .args .text .now) (named (f .name)) (f .takes) (named (f .gives)) t d) (c .if-is-taken .ensures tt);
       within = c .pre .within;
     }
 
@@ -30,8 +30,8 @@ returns-in-Break-name c =
     rw (p .1, p .2)
     record {
       declares = λ t d.
-      fun-unknown sorts memory (c .args .name-count .now) (room 512 memory) t (named (f .name))
-      (same-name (c .args .text .now) (named (f .name)) (f .takes) (named (f .gives)) t d) (c .if-is-taken .ensures tt) _ (c .in-Break-name .ensures tt t d);
+          fun-unknown sorts memory (c .args .name-count .now) (room 512 memory) t (named (f .name))
+          (same-name (c .args .text .now) (named (f .name)) (f .takes) (named (f .gives)) t d) (c .if-is-taken .ensures tt) _ (c .in-Break-name .ensures tt t d);
       within = c .pre .within;
     }
 
@@ -43,9 +43,9 @@ returns-then-end-min c =
     let few = c .pre .within .few-names in
     record {
       declares = λ t d.
-      fun-full sorts memory (c .args .name-count .now) (room 512 memory) t (named (f .name))
-      (same-name (c .args .text .now) (named (f .name)) (f .takes) (named (f .gives)) t d) (c .if-is-taken .ensures tt) _ (c .in-Continue-name .ensures tt t d)
-      (omega arith) (omega arith);
+          fun-full sorts memory (c .args .name-count .now) (room 512 memory) t (named (f .name))
+          (same-name (c .args .text .now) (named (f .name)) (f .takes) (named (f .gives)) t d) (c .if-is-taken .ensures tt) _ (c .in-Continue-name .ensures tt t d)
+          (omega arith) (omega arith);
       within = c .pre .within;
     }
 
@@ -58,8 +58,8 @@ returns c =
     let few = c .pre .within .few-names in
     record {
       declares = λ t d.
-      fun-added sorts memory (c .args .name-count .now) (room 512 memory) t (named (f .name))
-      (same-name (c .args .text .now) (named (f .name)) (f .takes) (named (f .gives)) t d) (c .if-is-taken .ensures tt) (nameOf name) (c .in-Continue-name .ensures tt t d)
-      (omega arith) (omega arith) name refl;
+          fun-added sorts memory (c .args .name-count .now) (room 512 memory) t (named (f .name))
+          (same-name (c .args .text .now) (named (f .name)) (f .takes) (named (f .gives)) t d) (c .if-is-taken .ensures tt) (nameOf name) (c .in-Continue-name .ensures tt t d)
+          (omega arith) (omega arith) name refl;
       within = record { few-sorts = c .pre .within .few-sorts; few-names = omega (arith, length-set memory (c .args .name-count .now) name) };
     }
