@@ -21,7 +21,7 @@ use Rattle.text.specs.declared.token.Token.{Token}
 use Rattle.text.specs.declared.token.TokenFault.{TokenFault}
 use Rattle.text.proofs.Places.{off}
 use Rattle.declarations.specs.Signatures.{_then_, sortOf, sortsOf, signature}
-use Rattle.declarations.specs.Calls.{Declaration}
+use Rattle.declarations.specs.Calls.{Declaration, IsListed}
 use Rattle.declarations.specs.Known.{kept}
 use Rattle.declarations.specs.declared.fault.TermFault.{TermFault}
 use Rattle.declarations.proofs.Resuming.{resumes}
@@ -46,6 +46,19 @@ module _ (text : List ℕ) (n : Named) (takes : ℕ) (g : Named) (t : DeclareFun
       after-first was r after (t .at) _ next
       (is ∙ ap (tokensFrom text) place
       ∙ resumes text (opens (d .at) ∷ symbol (d .head) (codes "declare-fun") ∷ word (t .function) ∷ []) 0 (opens (t .at)) _ (d .spelt))
+
+  pub listed : (was after : List Tok) (r : Result (Option Token) TokenFault) → was ≡ tokensFrom text takes → Next was r after → IsListed after
+  listed was after r is next = (
+    _,
+    record {
+      trees = t .takes;
+      end = t .right;
+      enough = omega arith;
+      few = d .fit .0;
+      fits = d .fit .1;
+      spelt = inside was after r is next;
+    },
+  )
 
 module _ (sorts : List (List ℕ)) (t : DeclareFun) where
   abbrev made-of : List Sort → Result Sort TermFault → Result NameView TermFault

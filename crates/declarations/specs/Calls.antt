@@ -13,7 +13,7 @@ use Rattle.entries.specs.Filing.{room}
 use Rattle.entries.specs.Views.{nameOf, wordsOf, namesOf}
 use Rattle.forms.specs.Forms.{Named, DeclareFun, declare-fun, spellProblem, FitDeclareFun}
 use Rattle.forms.specs.Parsed.{Entry, function, keptDeclareFun, named}
-use Rattle.forms.specs.Trees.{Trees, count, spells, Fits}
+use Rattle.forms.specs.Trees.{Trees, count, spells, Fits, Listed}
 use Rattle.forms.specs.declared.item.Item.the-variants as item
 use Rattle.text.specs.Tokens.{Tok, closes, tokens}
 use Rattle.declarations.specs.Declaring.{declareSort, declareFun}
@@ -49,6 +49,10 @@ DeclaresFun text f sorts n names m r names′ m′ =
 -- The name that a declaration makes, likewise.
 abbrev pub Makes : List ℕ → Entry → List (List ℕ) → Result Name TermFault → Type 0
 Makes text f sorts r = (t : DeclareFun) → Declaration text f t → mapped nameOf (λ fault. fault) r ≡ signature sorts t
+
+-- Items that are words come first, and a closing bracket after them.
+abbrev pub IsListed : List Tok → Type 0
+IsListed tokens = (rest : List Tok) × Listed item.Symbol 0 tokens rest
 
 -- The sorts that were read into a memory: n of them.
 abbrev pub sortsRead : Result ℕ TermFault → List Sort → Result (List Sort) TermFault
