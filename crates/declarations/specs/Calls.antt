@@ -21,7 +21,7 @@ use Rattle.declarations.specs.Signatures.{sortsOf, signature}
 use Rattle.declarations.specs.declared.fault.TermFault.{TermFault}
 use Rattle.declarations.specs.declared.function.Function.{Function}
 
--- Declaring a sort: n sorts stand in the memory before, and n′ after.
+-- Declaring a sort, where n sorts stand in the memory before, and n′ after.
 abbrev pub DeclaresSort : List Symbol → ℕ → List Name → ℕ → Named → Result (Unit {0}) TermFault → List Symbol → ℕ → Type 0
 DeclaresSort sorts n names m w r sorts′ n′ =
     (r, wordsOf sorts′ n′) ≡ declareSort (room 32 sorts) (wordsOf sorts n) (namesOf names m) w
@@ -38,19 +38,20 @@ pub record Declaration (text : List ℕ) (f : Entry) (t : DeclareFun) : Type 0 w
   pub spelt : tokens text ≡ spellProblem (declare-fun at head t)
   pub same : f ≡ keptDeclareFun t
 
+-- A text is the declaration of a function, of which f is kept.
 abbrev pub IsDeclaration : List ℕ → Entry → Type 0
 IsDeclaration text f = (t : DeclareFun) × Declaration text f t
 
--- Declaring a function: of the declaration that the text is, with m names in the memory before, and m′ after.
+-- Declaring the function of a text, where m names stand in the memory before, and m′ after.
 abbrev pub DeclaresFun : List ℕ → Entry → List Symbol → ℕ → List Name → ℕ → Result (Unit {0}) TermFault → List Name → ℕ → Type 0
 DeclaresFun text f sorts n names m r names′ m′ =
     (t : DeclareFun) → Declaration text f t → (r, namesOf names′ m′) ≡ declareFun (room 512 names) (wordsOf sorts n) (namesOf names m) t
 
--- The name that a declaration makes, likewise.
+-- Making the name of a text's declaration, likewise.
 abbrev pub Makes : List ℕ → Entry → List (List ℕ) → Result Name TermFault → Type 0
 Makes text f sorts r = (t : DeclareFun) → Declaration text f t → mapped nameOf (λ fault. fault) r ≡ signature sorts t
 
--- Items that are words come first, and a closing bracket after them.
+-- Items of a list come first that are words, and a closing bracket after them.
 abbrev pub IsListed : List Tok → Type 0
 IsListed tokens = (rest : List Tok) × Listed item.Symbol 0 tokens rest
 
@@ -59,7 +60,7 @@ abbrev pub sortsRead : Result ℕ TermFault → List Sort → Result (List Sort)
 sortsRead (Ok n) memory = Ok (take n memory)
 sortsRead (Err f) memory = Err f
 
--- Those are the sorts of the items that the tokens spell.
+-- Reading a list gives the sorts that its items name.
 abbrev pub ReadsSorts : List (List ℕ) → List Tok → Result ℕ TermFault → List Sort → Type 0
 ReadsSorts sorts tokens r memory =
     (ts : Trees) (end : ℕ) (rest : List Tok) → count ts ≤ 64 → Fits item.Symbol ts → tokens ≡ spells ts (closes end ∷ rest) →

@@ -50,64 +50,35 @@ fn operators_and_built_in_sorts_are_reserved() -> Result<(), Fail> {
 }
 
 #[test]
-fn a_list_of_one_takes_one_sort() -> Result<(), Fail> {
-    let mut sorts = [Symbol::new(b"A"); 1];
+fn a_word_is_declared_once() -> Result<(), Fail> {
+    let mut sorts = [Symbol::new(b""); 2];
     let mut count = 0;
     let names = [Name::new(Symbol::new(b"f"), &[], Sort::Bool)];
-    check(sort_named(&sorts, count, b"A").is_none())?;
+    let name = Word { at: 14, text: b"f" };
     refused(
-        declare_sort(
-            &mut sorts,
-            &mut count,
-            &names,
-            1,
-            Word { at: 14, text: b"f" },
-        ),
+        declare_sort(&mut sorts, &mut count, &names, 1, name),
         31,
         14,
     )?;
+    let sort = Word { at: 15, text: b"A" };
+    check(declare_sort(&mut sorts, &mut count, &names, 1, sort).is_ok())?;
     refused(
-        declare_sort(
-            &mut sorts,
-            &mut count,
-            &names,
-            1,
-            Word { at: 14, text: b"-" },
-        ),
+        declare_sort(&mut sorts, &mut count, &names, 1, sort),
         31,
-        14,
-    )?;
-    check(declare_sort(
-        &mut sorts,
-        &mut count,
-        &names,
-        1,
-        Word { at: 14, text: b"B" },
-    ).is_ok())?;
-    check_eq(number(sort_named(&sorts, count, b"B")), Some(0))?;
-    refused(
-        declare_sort(
-            &mut sorts,
-            &mut count,
-            &names,
-            1,
-            Word { at: 14, text: b"B" },
-        ),
-        31,
-        14,
-    )?;
-    refused(
-        declare_sort(
-            &mut sorts,
-            &mut count,
-            &names,
-            1,
-            Word { at: 15, text: b"A" },
-        ),
-        33,
         15,
-    )?;
-    check_eq(count, 1)
+    )
+}
+
+#[test]
+fn a_list_of_one_takes_one_sort() -> Result<(), Fail> {
+    let mut sorts = [Symbol::new(b"B"); 1];
+    let mut count = 0;
+    check(sort_named(&sorts, count, b"B").is_none())?;
+    let first = Word { at: 14, text: b"A" };
+    check(declare_sort(&mut sorts, &mut count, &[], 0, first).is_ok())?;
+    check_eq(number(sort_named(&sorts, count, b"A")), Some(0))?;
+    let second = Word { at: 14, text: b"B" };
+    refused(declare_sort(&mut sorts, &mut count, &[], 0, second), 33, 14)
 }
 
 /// Declares the function of a text with the sort `A`.
@@ -136,11 +107,11 @@ fn declare(text: &[u8], names: &mut [Name], count: &mut usize) -> Result<(), Ter
 }
 
 #[test]
-fn a_list_of_one_takes_one_name() -> Result<(), Fail> {
+fn a_sort_is_known() -> Result<(), Fail> {
     let mut names = [Name::new(Symbol::new(b"f"), &[], Sort::Bool); 1];
     let mut count = 0;
     refused(
-        declare(b"(declare-fun A () Bool)", &mut names, &mut count),
+        declare(b"(declare-fun A (B) C)", &mut names, &mut count),
         31,
         13,
     )?;
@@ -153,15 +124,16 @@ fn a_list_of_one_takes_one_name() -> Result<(), Fail> {
         declare(b"(declare-fun f (A Int) f)", &mut names, &mut count),
         30,
         23,
-    )?;
+    )
+}
+
+#[test]
+fn a_list_of_one_takes_one_name() -> Result<(), Fail> {
+    let mut names = [Name::new(Symbol::new(b"f"), &[], Sort::Bool); 1];
+    let mut count = 0;
     check(declare(b"(declare-fun g (A Int) Bool)", &mut names, &mut count).is_ok())?;
     check_eq(name_named(&names, count, b"g"), Some(0))?;
     check_eq(names[0].takes().len(), 2)?;
-    refused(
-        declare(b"(declare-fun g () B)", &mut names, &mut count),
-        31,
-        13,
-    )?;
     refused(
         declare(b"(declare-fun h () B)", &mut names, &mut count),
         30,
@@ -171,6 +143,5 @@ fn a_list_of_one_takes_one_name() -> Result<(), Fail> {
         declare(b"(declare-fun h () A)", &mut names, &mut count),
         33,
         13,
-    )?;
-    check_eq(count, 1)
+    )
 }
