@@ -5,3 +5,4 @@ pub mod Ends
 pub mod Declarings
 pub mod Signatures
 pub mod Makings
+pub mod Parsing

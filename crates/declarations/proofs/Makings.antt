@@ -20,7 +20,8 @@ use Rattle.text.specs.Tokens.{Tok, opens, closes, symbol, fault, seen, tokensFr
 use Rattle.text.specs.declared.token.Token.{Token}
 use Rattle.text.specs.declared.token.TokenFault.{TokenFault}
 use Rattle.text.proofs.Places.{off}
-use Rattle.declarations.specs.Functions.{_then_, sortOf, sortsOf, signature, Declares}
+use Rattle.declarations.specs.Signatures.{_then_, sortOf, sortsOf, signature}
+use Rattle.declarations.specs.Calls.{Declaration, IsListed}
 use Rattle.declarations.specs.Known.{kept}
 use Rattle.declarations.specs.declared.fault.TermFault.{TermFault}
 use Rattle.declarations.proofs.Resuming.{resumes}
@@ -31,7 +32,7 @@ after-first was (Ok None) after at rest next e = off (let none : was ≡ [] = ne
 after-first was (Ok (Some t)) after at rest next e = cc
 after-first was (Err f) after at rest next e = off (let first : fault f ∷ [] ≡ opens at ∷ [] = sym (next .0) ∙ ap (take 1) e in cc)
 
-module _ (text : List ℕ) (n : Named) (takes : ℕ) (g : Named) (t : DeclareFun) (d : Declares text (function n takes g) t) where
+module _ (text : List ℕ) (n : Named) (takes : ℕ) (g : Named) (t : DeclareFun) (d : Declaration text (function n takes g) t) where
   pub same-name : n ≡ t .function
   same-name = let is = d .same in cc
 
@@ -45,6 +46,19 @@ module _ (text : List ℕ) (n : Named) (takes : ℕ) (g : Named) (t : DeclareFun
       after-first was r after (t .at) _ next
       (is ∙ ap (tokensFrom text) place
       ∙ resumes text (opens (d .at) ∷ symbol (d .head) (codes "declare-fun") ∷ word (t .function) ∷ []) 0 (opens (t .at)) _ (d .spelt))
+
+  pub listed : (was after : List Tok) (r : Result (Option Token) TokenFault) → was ≡ tokensFrom text takes → Next was r after → IsListed after
+  listed was after r is next = (
+    _,
+    record {
+      trees = t .takes;
+      end = t .right;
+      enough = omega arith;
+      few = d .fit .0;
+      fits = d .fit .1;
+      spelt = inside was after r is next;
+    },
+  )
 
 module _ (sorts : List (List ℕ)) (t : DeclareFun) where
   abbrev made-of : List Sort → Result Sort TermFault → Result NameView TermFault

@@ -14,7 +14,7 @@ use Rattle.forms.specs.Trees.{Tree, name, number, call, Trees, none, more, coun
 use Rattle.forms.specs.declared.item.Item.the-variants.{Symbol}
 use Rattle.text.specs.Tokens.{Tok, opens, closes, symbol}
 use Rattle.text.proofs.Places.{off}
-use Rattle.declarations.specs.Functions.{_then_, sortOf, sortOfItem, sortsOf}
+use Rattle.declarations.specs.Signatures.{_then_, sortOf, sortOfItem, sortsOf}
 use Rattle.declarations.specs.declared.fault.TermFault.{TermFault}
 
 -- sorts that were found before others

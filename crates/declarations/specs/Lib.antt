@@ -2,5 +2,6 @@ pub mod Faults
 pub mod Words
 pub mod Known
 pub mod Lists
+pub mod Signatures
 pub mod Declaring
-pub mod Functions
+pub mod Calls

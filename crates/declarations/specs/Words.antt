@@ -19,6 +19,7 @@ pub record Operator : Type 0 where
   pub head : Head
 
 infix 30 _means_
+-- A word, and what it means as an operator.
 abbrev pub _means_ : List ℕ → Head → Operator
 word means head = record { word = word; head = head }
 
@@ -41,6 +42,7 @@ operators =
     ∷ (codes "*" means head.Times)
     ∷ []
 
+-- The head of the first operator with a word.
 abbrev pub headIn : List Operator → List ℕ → Option Head
 headIn [] word = None
 headIn (o ∷ os) word = cond (sameBytes word (o .word)) (Some (o .head)) (headIn os word)

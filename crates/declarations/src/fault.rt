@@ -8,7 +8,7 @@ pub enum TermFault {
     /// This word is no name, or no sort where a sort is due.
     Unknown { at: usize },
     /// This word has a meaning already.
-    Declared { at: usize },
+    Taken { at: usize },
     /// This term's arguments are too few, too many or of other sorts, or the term is of another sort
     /// than is due.
     Misfit { at: usize },
@@ -23,7 +23,7 @@ impl TermFault {
     {
         match self {
             TermFault::Unknown { .. } => 30,
-            TermFault::Declared { .. } => 31,
+            TermFault::Taken { .. } => 31,
             TermFault::Misfit { .. } => 32,
             TermFault::Full { .. } => 33,
         }
@@ -35,7 +35,7 @@ impl TermFault {
     {
         match self {
             TermFault::Unknown { at } => at,
-            TermFault::Declared { at } => at,
+            TermFault::Taken { at } => at,
             TermFault::Misfit { at } => at,
             TermFault::Full { at } => at,
         }
@@ -47,7 +47,7 @@ pub impl fmt::Display for TermFault as TermFaultDisplay {
     fn fmt<W: fmt::Write>(&self, f: &mut fmt::Formatter<W>) -> fmt::Result {
         match *self {
             TermFault::Unknown { .. } => f.write_str("a word that is not declared"),
-            TermFault::Declared { .. } => f.write_str("a word that has a meaning already"),
+            TermFault::Taken { .. } => f.write_str("a word that has a meaning already"),
             TermFault::Misfit { .. } => f.write_str(
                 "a term with arguments or a sort that do not fit",
             ),

@@ -17,7 +17,8 @@ ghost use Rattle.entries.specs.Views.{wordsOf};
 ghost use Rattle.forms.specs.Parsed.{named};
 ghost use Rattle.forms.specs.Takes.{TakesSymbol};
 ghost use Rattle.text.specs.Reading.{left};
-ghost use Rattle.declarations.specs.Functions.{sortOf, ReadsSorts, Makes, seenFunction};
+ghost use Rattle.declarations.specs.Calls.{seenFunction, IsDeclaration, Makes, IsListed, ReadsSorts};
+ghost use Rattle.declarations.specs.Signatures.{sortOf};
 
 /// The next token, if it is a symbol, and the reader after it.
 fn symbol<'a>(mut reader: Reader<'a>) -> Option<(Word<'a>, Reader<'a>)>
@@ -47,7 +48,8 @@ fn sorts_of(
     count: usize,
     takes: &mut [Sort; MOST_ARGUMENTS],
 ) -> Result<usize, TermFault>
-    requires { ⌜ count ≤ room 32 (now sorts) ⌝ }
+    requires few { ⌜ count ≤ room 32 (now sorts) ⌝ }
+    requires listed { ⌜ IsListed (left reader) ⌝ }
     ensures sorts { λ r. ⌜ ReadsSorts (wordsOf (now (sorts .entry)) count) (left (reader .entry)) r (now (takes .exit)) ⌝ }
     ensures few { λ r. ⌜ made r (λ n. n ≤ 64) ⌝ }
 {
@@ -69,10 +71,12 @@ pub fn signature(
     count: usize,
     declared: Function<'_>,
 ) -> Result<Name, TermFault>
-    requires { ⌜ count ≤ room 32 (now sorts) ⌝ }
+    requires few { ⌜ count ≤ room 32 (now sorts) ⌝ }
+    requires form { ⌜ IsDeclaration (now text) (seenFunction declared) ⌝ }
     ensures { λ r. ⌜ Makes (now (text .entry)) (seenFunction (declared .entry)) (wordsOf (now (sorts .entry)) count) r ⌝ }
 {
     let mut reader = Reader::at(text, declared.takes);
+    // The opening bracket.
     let _ = reader.next();
     let mut takes = [Sort::Bool; MOST_ARGUMENTS];
     let n = sorts_of(reader, sorts, count, &mut takes)?;

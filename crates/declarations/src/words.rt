@@ -1,4 +1,5 @@
 //! The words that have a meaning before anything is declared.
+use crate::table::OPERATORS;
 use crate::table::Operator;
 use entries::Head;
 use entries::Sort;
@@ -7,65 +8,7 @@ ghost use mathlib.Core.Path.{_≡_};
 ghost use Rattle.std.specs.shelf.Text.{sameBytes};
 ghost use Rattle.declarations.specs.Words.{operators, operatorOf, builtIn, isReserved, seenOperator};
 
-static OPERATORS: [Operator; 14] = [
-    Operator {
-        word: b"true",
-        head: Head::True,
-    },
-    Operator {
-        word: b"false",
-        head: Head::False,
-    },
-    Operator {
-        word: b"not",
-        head: Head::Not,
-    },
-    Operator {
-        word: b"and",
-        head: Head::And,
-    },
-    Operator {
-        word: b"or",
-        head: Head::Or,
-    },
-    Operator {
-        word: b"=>",
-        head: Head::Implies,
-    },
-    Operator {
-        word: b"=",
-        head: Head::Equal,
-    },
-    Operator {
-        word: b"<=",
-        head: Head::Le,
-    },
-    Operator {
-        word: b"<",
-        head: Head::Lt,
-    },
-    Operator {
-        word: b">=",
-        head: Head::Ge,
-    },
-    Operator {
-        word: b">",
-        head: Head::Gt,
-    },
-    Operator {
-        word: b"+",
-        head: Head::Plus,
-    },
-    Operator {
-        word: b"-",
-        head: Head::Minus,
-    },
-    Operator {
-        word: b"*",
-        head: Head::Times,
-    },
-];
-
+/// The operators.
 fn table() -> &'static [Operator]
     ensures { λ r. ⌜ map seenOperator (now r) ≡ operators ⌝ }
 {

@@ -7,8 +7,17 @@ use Rattle.std.proofs.shelf.Results.{err-from-errBy}
 use Rattle.entries.specs.Views.{wordsOf, nameOf}
 use Rattle.forms.specs.Parsed.{named}
 use Rattle.text.specs.Reading.{left}
-use Rattle.declarations.proofs.Makings.{same-name, same-gives, inside, takes-unknown, gives-unknown, makes}
+use Rattle.declarations.proofs.Makings.{same-name, same-gives, inside, listed, takes-unknown, gives-unknown, makes}
 use Rattle.declarations.proofs.signature.signature.Needs as need
+
+pub sorts-of-requires : need.sorts-of-requires
+sorts-of-requires c κs =
+    let f = c .args .declared in
+    let form = c .pre .form in
+    record {
+      few = c .pre .few;
+      listed = listed (c .args .text .now) (named (f .name)) (f .takes) (named (f .gives)) (form .0) (form .1) _ _ (c .next .result) (c .at-reader .ensures) (c .next .ensures);
+    }
 
 pub returns-in-Break-n : need.returns-in-Break-n
 returns-in-Break-n c t d =
