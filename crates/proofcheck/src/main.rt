@@ -1,4 +1,4 @@
-//! `proofcheck PROBLEM PROOF`: checks a problem and the proof that no value meets its claims.
+//! `proofcheck PROBLEM PROOF`: reads a problem and its proof, and says which commands are well formed.
 mod failure;
 mod file;
 mod report;
@@ -18,7 +18,8 @@ const USAGE: &str = "usage: proofcheck [--list] PROBLEM PROOF";
 
 const HELP: &str = "usage: proofcheck [--list] PROBLEM PROOF
 
-Checks the problem in the file PROBLEM and its proof in the file PROOF, command by command.
+Reads the problem in the file PROBLEM and its proof in the file PROOF, command by command, and
+says which commands are well formed. It does not judge the proof: no word of it is an acceptance.
 Each command that is refused has a line of its own,
 
     FILE:LINE:COLUMN: refused NUMBER: WORDS, command N, byte B, layer LAYER
@@ -70,7 +71,10 @@ fn run(rt: &LibcRuntime, list: bool, problem: &str, proof: &str) -> Result<(), F
         println!(rt, "commands refused: {refused}")?;
         return Err(Failure::Refused);
     }
-    println!(rt, "all commands have passed the token and form layers")?;
+    println!(
+        rt,
+        "all commands have passed the token and form layers; the proof itself is not judged yet"
+    )?;
     Ok(())
 }
 
