@@ -5,7 +5,7 @@ use Prim.Native.Nat.{ℕ, _≤_}
 use lib.ListN.{take}
 use Rattle.std.specs.declared.result.Result.{Result}
 use Rattle.std.specs.declared.result.Result.the-variants.{Ok, Err}
-use mathlib.Core.Bool.{Bool}
+use mathlib.Core.Bool.{Bool, true}
 use Rattle.text.specs.Reading.{left}
 use Rattle.text.specs.Tokens.{Tok, closes}
 use Rattle.text.specs.declared.reader.Reader.{Reader}
@@ -63,3 +63,12 @@ pub record BeginsAll (text : List Tok) : Type 0 where
 abbrev pub ReadsTrees : List NameView → ℕ → List Tok → List TermView → ToldAll → List TermView → Type 0
 ReadsTrees names most text old answer new =
     (ts : Trees) (end : ℕ) (rest : List Tok) → text ≡ spells ts (closes end ∷ rest) → FollowsAll (reads names most ts [] old) answer new rest
+
+-- Reading a claim: as reading its tree, which has to be Bool, says; a refusal leaves the list as it was.
+abbrev pub Claims : Out → Result ℕ TermFault → List TermView → List TermView → Type 0
+Claims (fails f) r old new = (r ≡ Err f) × (new ≡ old)
+Claims (gives n terms) r old new = (r ≡ Ok n) × (new ≡ terms)
+
+abbrev pub ReadsClaim : List NameView → ℕ → List Tok → List TermView → Result ℕ TermFault → List TermView → Type 0
+ReadsClaim names most text old r new =
+    (t : Tree) (rest : List Tok) → text ≡ spell t rest → Claims (read names most true t old) r old new
