@@ -1,10 +1,9 @@
 //! Parsed commands. They borrow their names from the command's text, and keep the places of what
 //! a later layer reads again: terms, and lists by their opening bracket.
 use crate::word::Word;
-use crate::word::WordDebug;
 
 /// A command of the problem part.
-#[derive(Clone, Copy, Debug)]
+#[derive(Clone, Copy)]
 pub enum ProblemForm<'a> {
     SetLogic {
         logic: Word<'a>,
@@ -31,7 +30,7 @@ pub struct JustifiedBy<'a> {
 }
 
 /// A step: `premises` and `args` are the places of the two lists, which may be absent.
-#[derive(Clone, Copy, Debug)]
+#[derive(Clone, Copy)]
 pub struct Step<'a> {
     pub name: Word<'a>,
     pub clause: usize,
@@ -41,7 +40,7 @@ pub struct Step<'a> {
 }
 
 /// A command of the proof part.
-#[derive(Clone, Copy, Debug)]
+#[derive(Clone, Copy)]
 pub enum ProofForm<'a> {
     Assume { name: Word<'a>, term: usize },
     Step(Step<'a>),

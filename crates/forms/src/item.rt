@@ -1,6 +1,6 @@
 //! What the items of a list are.
 
-#[derive(Clone, Copy, Debug, PartialEq)]
+#[derive(Clone, Copy)]
 pub enum Item {
     Term,
     Symbol,
