@@ -64,7 +64,7 @@ module _ (names : List NameView) (most : ℕ) (wants : Bool) (old : List TermVie
       none-of (token.Close a) e t h = not-close t (b .0) after a (sym h ∙ ap (λ j. seen j ∷ after) e)
       none-of (token.Keyword a w) e t h = not-keyword t (b .0) after a (w .now) (sym h ∙ ap (λ j. seen j ∷ after) e)
 
--- the exit of a `?`
+-- what an early return leaves to be shown: the fault is the one that was passed on
 pub refused-reads : (names : List NameView) (most : ℕ) (wants : Bool) (text : List Tok) (old new : List TermView) (r : Result (ℕ × Reader) TermFault) (y f : TermFault) → r ≡ Err y → y ≡ f → ReadsTree names most wants text old (failed f) new → ReadsTree names most wants text old (told r) new
 refused-reads names most wants text old new r y f e g h =
     subst (λ q. ReadsTree names most wants text old (told q) new) (sym (e ∙ ap Err g)) h

@@ -96,7 +96,7 @@ module _ (names : List Name) (m₀ : List Term) (n₀ : ℕ) (all : List Tok) (m
             fewer = omega (arith, turn-less, turn .fewer);
           }
 
--- the exit of a `?`
+-- what an early return leaves to be shown: the fault is the one that was passed on
 pub refused-all : (names : List NameView) (most : ℕ) (text : List Tok) (old new : List TermView) (args : List ℕ) (r : Result (ℕ × Reader) TermFault) (y f : TermFault) → r ≡ Err y → y ≡ f → ReadsTrees names most text old (failed-at f) new → ReadsTrees names most text old (toldAll r args) new
 refused-all names most text old new args r y f e g h =
     subst (λ q. ReadsTrees names most text old (toldAll q args) new) (sym (e ∙ ap Err g)) h
