@@ -24,7 +24,8 @@ abbrev pub told : Result (ℕ × Reader) TermFault → Told
 told (Ok p) = got (p .0) (left (p .1))
 told (Err f) = failed f
 
--- It did what an outcome says, and the others follow.
+-- The answer is the outcome's: its fault; or its number with the tokens `rest` after the term, and the list is
+-- then the outcome's.
 abbrev pub Follows : Out → Told → List TermView → List Tok → Type 0
 Follows (fails f) answer terms rest = answer ≡ failed f
 Follows (gives n new) answer terms rest = (answer ≡ got n rest) × (terms ≡ new)

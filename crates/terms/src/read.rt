@@ -24,7 +24,8 @@ ghost use Rattle.terms.specs.Reading.{told, Begins, ReadsTree, toldAll, Begins
 ghost use Rattle.terms.specs.State.{Ready, Grown};
 
 /// Reads the term that begins with `first`: its number, and the reader after it. With `wants` it
-/// has to be `Bool`.
+/// has to be `Bool`. A refusal may leave arguments that were read before it behind the old terms;
+/// `read_claim` takes them back.
 pub fn read_term<'a>(
     names: &[Name],
     terms: &mut [Term],
