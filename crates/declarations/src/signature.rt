@@ -7,28 +7,17 @@ use entries::Sort;
 use entries::Symbol;
 use entries::limits::MOST_ARGUMENTS;
 use forms::Word;
+use forms::symbol;
 use text::Reader;
-use text::Token;
 ghost use mathlib.Core.Path.{_≡_};
 ghost use Prim.Native.Nat.{_≤_};
 ghost use Rattle.std.specs.Vec.{made};
 ghost use Rattle.entries.specs.Filing.{room};
 ghost use Rattle.entries.specs.Views.{wordsOf};
 ghost use Rattle.forms.specs.Parsed.{named};
-ghost use Rattle.forms.specs.Takes.{TakesSymbol};
 ghost use Rattle.text.specs.Reading.{left};
 ghost use Rattle.declarations.specs.Calls.{seenFunction, IsDeclaration, Makes, IsListed, ReadsSorts};
 ghost use Rattle.declarations.specs.Signatures.{sortOf};
-
-/// The next token, if it is a symbol, and the reader after it.
-fn symbol<'a>(mut reader: Reader<'a>) -> Option<(Word<'a>, Reader<'a>)>
-    ensures { λ r. ⌜ TakesSymbol (left (reader .entry)) r ⌝ }
-{
-    match reader.next() {
-        Ok(Some(Token::Symbol { at, text })) => Some((Word { at, text }, reader)),
-        _ => None,
-    }
-}
 
 /// The sort that `word` names.
 fn sort_of(sorts: &[Symbol], count: usize, word: Word<'_>) -> Result<Sort, TermFault>
