@@ -41,7 +41,7 @@ impl Class for Line {
 
 /// Where the longest run of bytes of the class `C` from `from` on ends.
 pub fn run_end<C: Class>(text: &[u8], from: usize) -> usize
-    ensures value { result ≡ from + prefix_len holds (drop from text.now) }
+    ensures value { result ≡ from + prefix_len C.holds (drop from text.now) }
     ensures within { from ≤ length text.now → result ≤ length text.now }
 {
     let mut end = from;

@@ -4,8 +4,8 @@ use Rattle.commands.specs.declared.outcome.Outcome.TheVariants.{Skipped, Accepte
 use Rattle.commands.proofs.Determined.{determined}
 use Rattle.commands.proofs.outcome.outcome_of.Goals as goal
 
-pub returns-then-is-chatter : goal.returns-then-is-chatter
-returns-then-is-chatter c =
+pub returns-then-is_chatter : goal.returns-then-is_chatter
+returns-then-is_chatter c =
     let value : Comes c.args.part c.args.text.now Skipped = search rules in
     record { value = value; determined = determined c.args.part c.args.text.now }
 

@@ -12,4 +12,4 @@ returns-then-premises-ne1 c =
 pub returns-else-premises-ne1 : goal.returns-else-premises-ne1
 returns-else-premises-ne1 c =
     takes_one (views_of c.args.terms.now) c.args.t c.args.i c.args.premise c.args.premises.now c.in-Some.piece c.in-Some.is c.if-premises-ne1.false
-    c.index-premises-0.result c.literals.result.now c.same-clause.result c.index-premises-0.is c.literals.ensures c.same-clause.ensures
+    c.index-premises-0.result c.literals.result.now c.same_clause.result c.index-premises-0.is c.literals.ensures c.same_clause.ensures

@@ -7,8 +7,8 @@ use Rattle.referee.proofs.Scans.{every_broken, every_next, every_done}
 use Rattle.connectives.specs.Rules.{turned_by}
 use Rattle.connectives.proofs.pieces.has_all.Goals as goal
 
-pub literal-of-requires : goal.literal-of-requires
-literal-of-requires c = record {
+pub literal_of-requires : goal.literal_of-requires
+literal_of-requires c = record {
   formed = c.requires.formed;
   within = All-get_or (λ n. n < length c.args.terms.now) c.args.ns.now c.loop-n.n-index 0 c.loop-n-test.true c.requires.within;
 }
@@ -16,12 +16,12 @@ literal-of-requires c = record {
 pub returns-then-not-has : goal.returns-then-not-has
 returns-then-not-has c =
     every_broken (λ n. holds_literal c.args.clause.now (turned_by c.args.negative (literal_of (views_of c.args.terms.now) n))) c.args.ns.now c.loop-n.n-index 0 c.loop-n-test.true c.loop-n.invariant
-    (c.if-not-has.ensures ∙ ap (holds_literal c.args.clause.now) (c.turned.ensures ∙ ap (turned_by c.args.negative) c.literal-of.ensures.literal))
+    (c.if-not-has.ensures ∙ ap (holds_literal c.args.clause.now) (c.turned.ensures ∙ ap (turned_by c.args.negative) c.literal_of.ensures.literal))
 
 pub loop-n-preserved : goal.loop-n-preserved
 loop-n-preserved c =
     every_next (λ n. holds_literal c.args.clause.now (turned_by c.args.negative (literal_of (views_of c.args.terms.now) n))) c.args.ns.now c.loop-n.n-index 0 c.loop-n-test.true c.loop-n.invariant
-    (c.if-not-has.ensures ∙ ap (holds_literal c.args.clause.now) (c.turned.ensures ∙ ap (turned_by c.args.negative) c.literal-of.ensures.literal))
+    (c.if-not-has.ensures ∙ ap (holds_literal c.args.clause.now) (c.turned.ensures ∙ ap (turned_by c.args.negative) c.literal_of.ensures.literal))
 
 pub returns : goal.returns
 returns c =

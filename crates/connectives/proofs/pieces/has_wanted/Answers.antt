@@ -8,27 +8,27 @@ use Rattle.connectives.specs.Table.{T}
 use Rattle.connectives.specs.Wanted.{stands_within, piece_all, wanted_all}
 use Rattle.connectives.proofs.pieces.has_wanted.Goals as goal
 
-pub has-all-requires : goal.has-all-requires
-has-all-requires c = record {
+pub has_all-requires : goal.has_all-requires
+has_all-requires c = record {
   formed = c.requires.formed;
   within = stands_within c.args.terms.now c.requires.formed c.args.t c.requires.within c.args.i (get_or c.args.pieces.now c.loop-p.p-index T).part
-      c.args-of-args.result.now c.stands-for-ns.result.now c.args-of-args.ensures c.stands-for-ns.ensures;
+      c.args_of-args.result.now c.stands_for-ns.result.now c.args_of-args.ensures c.stands_for-ns.ensures;
 }
 
-pub returns-then-not-has-all : goal.returns-then-not-has-all
-returns-then-not-has-all c =
+pub returns-then-not-has_all : goal.returns-then-not-has_all
+returns-then-not-has_all c =
     every_broken (λ p. every (holds_literal c.args.clause.now) (piece_literals (views_of c.args.terms.now) c.args.t c.args.i p)) c.args.pieces.now c.loop-p.p-index T
     c.loop-p-test.true c.loop-p.invariant
-    (c.if-not-has-all.ensures
-    ∙ piece_all (views_of c.args.terms.now) c.args.t c.args.i (get_or c.args.pieces.now c.loop-p.p-index T) c.args-of-args.result.now c.stands-for-ns.result.now c.args-of-args.ensures c.stands-for-ns.ensures c.args.clause.now)
+    (c.if-not-has_all.ensures
+    ∙ piece_all (views_of c.args.terms.now) c.args.t c.args.i (get_or c.args.pieces.now c.loop-p.p-index T) c.args_of-args.result.now c.stands_for-ns.result.now c.args_of-args.ensures c.stands_for-ns.ensures c.args.clause.now)
     ∙ sym (wanted_all (views_of c.args.terms.now) c.args.t c.args.i c.args.pieces.now c.args.clause.now)
 
 pub loop-p-preserved : goal.loop-p-preserved
 loop-p-preserved c =
     every_next (λ p. every (holds_literal c.args.clause.now) (piece_literals (views_of c.args.terms.now) c.args.t c.args.i p)) c.args.pieces.now c.loop-p.p-index T
     c.loop-p-test.true c.loop-p.invariant
-    (c.if-not-has-all.ensures
-    ∙ piece_all (views_of c.args.terms.now) c.args.t c.args.i (get_or c.args.pieces.now c.loop-p.p-index T) c.args-of-args.result.now c.stands-for-ns.result.now c.args-of-args.ensures c.stands-for-ns.ensures c.args.clause.now)
+    (c.if-not-has_all.ensures
+    ∙ piece_all (views_of c.args.terms.now) c.args.t c.args.i (get_or c.args.pieces.now c.loop-p.p-index T) c.args_of-args.result.now c.stands_for-ns.result.now c.args_of-args.ensures c.stands_for-ns.ensures c.args.clause.now)
 
 pub returns : goal.returns
 returns c =

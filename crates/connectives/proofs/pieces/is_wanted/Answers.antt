@@ -8,27 +8,27 @@ use Rattle.connectives.specs.Table.{T}
 use Rattle.connectives.specs.Wanted.{stands_within, piece_one, wanted_one}
 use Rattle.connectives.proofs.pieces.is_wanted.Goals as goal
 
-pub is-of-one-requires : goal.is-of-one-requires
-is-of-one-requires c = record {
+pub is_of_one-requires : goal.is_of_one-requires
+is_of_one-requires c = record {
   formed = c.requires.formed;
   within = stands_within c.args.terms.now c.requires.formed c.args.t c.requires.within c.args.i (get_or c.args.pieces.now c.loop-p.p-index T).part
-      c.args-of-args.result.now c.stands-for-ns.result.now c.args-of-args.ensures c.stands-for-ns.ensures;
+      c.args_of-args.result.now c.stands_for-ns.result.now c.args_of-args.ensures c.stands_for-ns.ensures;
 }
 
-pub returns-then-is-of-one : goal.returns-then-is-of-one
-returns-then-is-of-one c =
+pub returns-then-is_of_one : goal.returns-then-is_of_one
+returns-then-is_of_one c =
     some_found (λ p. some (λ m. same_literal m c.args.l) (piece_literals (views_of c.args.terms.now) c.args.t c.args.i p)) c.args.pieces.now c.loop-p.p-index T
     c.loop-p-test.true c.loop-p.invariant
-    (c.if-is-of-one.ensures
-    ∙ piece_one (views_of c.args.terms.now) c.args.t c.args.i (get_or c.args.pieces.now c.loop-p.p-index T) c.args-of-args.result.now c.stands-for-ns.result.now c.args-of-args.ensures c.stands-for-ns.ensures c.args.l)
+    (c.if-is_of_one.ensures
+    ∙ piece_one (views_of c.args.terms.now) c.args.t c.args.i (get_or c.args.pieces.now c.loop-p.p-index T) c.args_of-args.result.now c.stands_for-ns.result.now c.args_of-args.ensures c.stands_for-ns.ensures c.args.l)
     ∙ sym (wanted_one (views_of c.args.terms.now) c.args.t c.args.i c.args.pieces.now c.args.l)
 
 pub loop-p-preserved : goal.loop-p-preserved
 loop-p-preserved c =
     some_next (λ p. some (λ m. same_literal m c.args.l) (piece_literals (views_of c.args.terms.now) c.args.t c.args.i p)) c.args.pieces.now c.loop-p.p-index T
     c.loop-p-test.true c.loop-p.invariant
-    (c.if-is-of-one.ensures
-    ∙ piece_one (views_of c.args.terms.now) c.args.t c.args.i (get_or c.args.pieces.now c.loop-p.p-index T) c.args-of-args.result.now c.stands-for-ns.result.now c.args-of-args.ensures c.stands-for-ns.ensures c.args.l)
+    (c.if-is_of_one.ensures
+    ∙ piece_one (views_of c.args.terms.now) c.args.t c.args.i (get_or c.args.pieces.now c.loop-p.p-index T) c.args_of-args.result.now c.stands_for-ns.result.now c.args_of-args.ensures c.stands_for-ns.ensures c.args.l)
 
 pub returns : goal.returns
 returns c =

@@ -10,12 +10,12 @@ returns-in-Some c = record { value = sym c.in-Some.ensures; unambiguous = unambi
 
 pub returns-in-Some-problem : goal.returns-in-Some-problem
 returns-in-Some-problem c = record {
-  value = taken FitProblem spell_problem kept_problem seen_problem one_problem _ _ (sym c.in-default.ensures) c.new.ensures.all c.in-Some-problem.form c.in-Some-problem.ensures;
+  value = taken FitProblem spell_problem kept_problem seen_problem one_problem _ _ (sym c.in_default.ensures) c.new.ensures.all c.in-Some-problem.form c.in-Some-problem.ensures;
   unambiguous = unambiguous;
 }
 
 pub returns-in-None : goal.returns-in-None
 returns-in-None c = record {
-  value = refused FitProblem spell_problem kept_problem seen_problem one_problem _ _ (sym c.in-default.ensures) c.new.ensures.all c.in-None.ensures;
+  value = refused FitProblem spell_problem kept_problem seen_problem one_problem _ _ (sym c.in_default.ensures) c.new.ensures.all c.in-None.ensures;
   unambiguous = unambiguous;
 }

@@ -10,12 +10,12 @@ returns-in-Some c = record { value = sym c.in-Some.ensures; unambiguous = unambi
 
 pub returns-in-Some-proof : goal.returns-in-Some-proof
 returns-in-Some-proof c = record {
-  value = taken FitProof spell_proof kept_proof seen_proof one_proof _ _ (sym c.in-default.ensures) c.new.ensures.all c.in-Some-proof.form c.in-Some-proof.ensures;
+  value = taken FitProof spell_proof kept_proof seen_proof one_proof _ _ (sym c.in_default.ensures) c.new.ensures.all c.in-Some-proof.form c.in-Some-proof.ensures;
   unambiguous = unambiguous;
 }
 
 pub returns-in-None : goal.returns-in-None
 returns-in-None c = record {
-  value = refused FitProof spell_proof kept_proof seen_proof one_proof _ _ (sym c.in-default.ensures) c.new.ensures.all c.in-None.ensures;
+  value = refused FitProof spell_proof kept_proof seen_proof one_proof _ _ (sym c.in_default.ensures) c.new.ensures.all c.in-None.ensures;
   unambiguous = unambiguous;
 }

@@ -4,27 +4,27 @@ use Rattle.forms.proofs.Groups.{not_premises, not_args, no_group, group_follows,
 use Rattle.forms.proofs.Spelling.{tails}
 use Rattle.forms.proofs.proof.reason.Goals as goal
 
-pub returns-in-err-premises : goal.returns-in-err-premises
-returns-in-err-premises c =
-    rw c.from-residual-in-err-premises.ensures
-    (λ t fit e. let rest = tails c.in-ok-rule.ensures (tails c.in-ok-after-key.ensures e) in
-    no_group _ _ _ c.in-err-premises.ensures t.premises _ fit.0 (not_premises t.args t.end) rest)
+pub returns-in_err-premises : goal.returns-in_err-premises
+returns-in_err-premises c =
+    rw c.from_residual-in_err-premises.ensures
+    (λ t fit e. let rest = tails c.in_ok-rule.ensures (tails c.in_ok-after_key.ensures e) in
+    no_group _ _ _ c.in_err-premises.ensures t.premises _ fit.0 (not_premises t.args t.end) rest)
 
-pub returns-in-err-args : goal.returns-in-err-args
-returns-in-err-args c =
-    rw c.from-residual-in-err-args.ensures
-    (λ t fit e. let rest = tails c.in-ok-rule.ensures (tails c.in-ok-after-key.ensures e) in
-    let more = group_follows _ _ _ (c.in-ok-premises.premises, c.in-ok-premises.after-premises) c.in-ok-premises.ensures t.premises _ (not_premises t.args t.end) rest in
-    no_group _ _ _ c.in-err-args.ensures t.args _ fit.1 (not_args t.end) more.0)
+pub returns-in_err-args : goal.returns-in_err-args
+returns-in_err-args c =
+    rw c.from_residual-in_err-args.ensures
+    (λ t fit e. let rest = tails c.in_ok-rule.ensures (tails c.in_ok-after_key.ensures e) in
+    let more = group_follows _ _ _ (c.in_ok-premises.premises, c.in_ok-premises.after_premises) c.in_ok-premises.ensures t.premises _ (not_premises t.args t.end) rest in
+    no_group _ _ _ c.in_err-args.ensures t.args _ fit.1 (not_args t.end) more.0)
 
-pub returns-in-err-closing : goal.returns-in-err-closing
-returns-in-err-closing c =
-    rw c.from-residual-in-err-closing.ensures
-    (λ t fit e. let rest = tails c.in-ok-rule.ensures (tails c.in-ok-after-key.ensures e) in
-    let more = group_follows _ _ _ (c.in-ok-premises.premises, c.in-ok-premises.after-premises) c.in-ok-premises.ensures t.premises _ (not_premises t.args t.end) rest in
-    let last = group_follows _ _ _ (c.in-ok-args.args, c.in-ok-args.after-args) c.in-ok-args.ensures t.args _ (not_args t.end) more.0 in
-    c.in-err-closing.ensures t.end last.0)
+pub returns-in_err-closing : goal.returns-in_err-closing
+returns-in_err-closing c =
+    rw c.from_residual-in_err-closing.ensures
+    (λ t fit e. let rest = tails c.in_ok-rule.ensures (tails c.in_ok-after_key.ensures e) in
+    let more = group_follows _ _ _ (c.in_ok-premises.premises, c.in_ok-premises.after_premises) c.in_ok-premises.ensures t.premises _ (not_premises t.args t.end) rest in
+    let last = group_follows _ _ _ (c.in_ok-args.args, c.in_ok-args.after_args) c.in_ok-args.ensures t.args _ (not_args t.end) more.0 in
+    c.in_err-closing.ensures t.end last.0)
 
 pub returns : goal.returns
 returns c =
-    reason_made (named c.in-ok-rule.rule) _ _ (c.in-ok-premises.premises, c.in-ok-premises.after-premises) (c.in-ok-args.args, c.in-ok-args.after-args) _ c.in-ok-premises.ensures c.in-ok-args.ensures c.in-ok-closing.ensures _ c.in-ok-after-key.ensures c.in-ok-rule.ensures
+    reason_made (named c.in_ok-rule.rule) _ _ (c.in_ok-premises.premises, c.in_ok-premises.after_premises) (c.in_ok-args.args, c.in_ok-args.after_args) _ c.in_ok-premises.ensures c.in_ok-args.ensures c.in_ok-closing.ensures _ c.in_ok-after_key.ensures c.in_ok-rule.ensures

@@ -4,22 +4,22 @@ use Rattle.forms.proofs.Groups.{clause_follows, no_clause}
 use Rattle.forms.proofs.Spelling.{tails}
 use Rattle.forms.proofs.proof.step.Goals as goal
 
-pub returns-in-err-clause : goal.returns-in-err-clause
-returns-in-err-clause c =
-    rw c.from-residual-in-err-clause.ensures
-    (λ t fit e. no_clause _ c.in-err-clause.ensures t.at t.cl t.literals t.right _ fit.0 fit.1 (tails c.in-ok-name.ensures e))
+pub returns-in_err-clause : goal.returns-in_err-clause
+returns-in_err-clause c =
+    rw c.from_residual-in_err-clause.ensures
+    (λ t fit e. no_clause _ c.in_err-clause.ensures t.at t.cl t.literals t.right _ fit.0 fit.1 (tails c.in_ok-name.ensures e))
 
-pub returns-in-err-rule : goal.returns-in-err-rule
-returns-in-err-rule c =
-    rw c.from-residual-in-err-rule.ensures
-    (λ t fit e. c.in-err-rule.ensures t.reason fit.2 (clause_follows _ _ _ c.in-ok-clause.ensures t.at t.cl t.literals t.right _ (tails c.in-ok-name.ensures e)))
+pub returns-in_err-rule : goal.returns-in_err-rule
+returns-in_err-rule c =
+    rw c.from_residual-in_err-rule.ensures
+    (λ t fit e. c.in_err-rule.ensures t.reason fit.2 (clause_follows _ _ _ c.in_ok-clause.ensures t.at t.cl t.literals t.right _ (tails c.in_ok-name.ensures e)))
 
 pub returns : goal.returns
 returns c =
-    let name = c.in-ok-name.ensures in
-    let clause = c.in-ok-clause.ensures in
+    let name = c.in_ok-name.ensures in
+    let clause = c.in_ok-clause.ensures in
     let opened = clause.opened in
     let spelt = clause.listed.spelt in
-    let why = c.in-ok-rule.ensures in
+    let why = c.in_ok-rule.ensures in
     let reason = why.2 in
-    (record { step = named c.in-ok-name.name; at = c.in-ok-clause.clause; cl = clause.cl; literals = clause.listed.trees; right = clause.listed.end; reason = why.0 }, (clause.listed.few, clause.listed.fits, why.1), cc, ap (λ j. steps (named c.in-ok-name.name) c.in-ok-clause.clause j) why.3)
+    (record { step = named c.in_ok-name.name; at = c.in_ok-clause.clause; cl = clause.cl; literals = clause.listed.trees; right = clause.listed.end; reason = why.0 }, (clause.listed.few, clause.listed.fits, why.1), cc, ap (λ j. steps (named c.in_ok-name.name) c.in_ok-clause.clause j) why.3)

@@ -6,8 +6,8 @@ use Rattle.meaning.specs.Truth.{literal_of}
 use Rattle.meaning.proofs.Clauses.{written_more, written_all, clause_within, clause_truth_of}
 use Rattle.meaning.proofs.read.clause_of.Goals as goal
 
-pub literal-of-requires : goal.literal-of-requires
-literal-of-requires c = record {
+pub literal_of-requires : goal.literal_of-requires
+literal_of-requires c = record {
   formed = c.requires.formed;
   within = All-get_or (λ n. n < length c.args.terms.now) c.args.written.now c.loop-n.n-index 0 c.loop-n-test.true c.requires.within;
 }
@@ -15,8 +15,8 @@ literal-of-requires c = record {
 pub loop-n-preserved : goal.loop-n-preserved
 loop-n-preserved c =
     written_more (literal_of (map term_of c.args.terms.now)) c.args.written.now c.loop-n.n-index c.loop-n-test.true
-    (clause_of c.loop-n.clause) (clause_of c.push.new.self) c.literal-of.result
-    c.loop-n.invariant.0 c.loop-n.invariant.1 c.literal-of.ensures.literal c.push.ensures
+    (clause_of c.loop-n.clause) (clause_of c.push.new.self) c.literal_of.result
+    c.loop-n.invariant.0 c.loop-n.invariant.1 c.literal_of.ensures.literal c.push.ensures
 
 pub returns : goal.returns
 returns c =

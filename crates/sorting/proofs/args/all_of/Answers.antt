@@ -9,16 +9,16 @@ use Rattle.sorting.proofs.args.all_of.Goals as goal
 pub loop-n-init : goal.loop-n-init
 loop-n-init c = refl
 
-pub sort-of-requires : goal.sort-of-requires
-sort-of-requires c = All-get_or (λ n. n < length c.args.terms.now) c.args.args.now c.loop-n.n-index 0 c.loop-n-test.true c.requires
+pub sort_of-requires : goal.sort_of-requires
+sort_of-requires c = All-get_or (λ n. n < length c.args.terms.now) c.args.args.now c.loop-n.n-index 0 c.loop-n-test.true c.requires
 
-pub returns-then-not-same-sort : goal.returns-then-not-same-sort
-returns-then-not-same-sort c =
-    all_broken (sort_at (views_of c.args.terms.now)) c.args.sort c.args.args.now c.loop-n.n-index c.loop-n.invariant c.loop-n-test.true (ap (λ t. same_sort t c.args.sort) (sym c.sort-of.ensures) ∙ sym c.same_sort_lem.ensures ∙ c.if-not-same-sort.true)
+pub returns-then-not-same_sort : goal.returns-then-not-same_sort
+returns-then-not-same_sort c =
+    all_broken (sort_at (views_of c.args.terms.now)) c.args.sort c.args.args.now c.loop-n.n-index c.loop-n.invariant c.loop-n-test.true (ap (λ t. same_sort t c.args.sort) (sym c.sort_of.ensures) ∙ sym c.same_sort_lem.ensures ∙ c.if-not-same_sort.true)
 
 pub loop-n-preserved : goal.loop-n-preserved
 loop-n-preserved c =
-    all_next (sort_at (views_of c.args.terms.now)) c.args.sort c.args.args.now c.loop-n.n-index c.loop-n.invariant c.loop-n-test.true (ap (λ t. same_sort t c.args.sort) (sym c.sort-of.ensures) ∙ sym c.same_sort_lem.ensures ∙ c.if-not-same-sort.false)
+    all_next (sort_at (views_of c.args.terms.now)) c.args.sort c.args.args.now c.loop-n.n-index c.loop-n.invariant c.loop-n-test.true (ap (λ t. same_sort t c.args.sort) (sym c.sort_of.ensures) ∙ sym c.same_sort_lem.ensures ∙ c.if-not-same_sort.false)
 
 pub returns : goal.returns
 returns c = all_done (sort_at (views_of c.args.terms.now)) c.args.sort c.args.args.now c.loop-n.n-index c.loop-n.invariant c.loop-n-test.false

@@ -6,7 +6,7 @@ use Rattle.sorting.proofs.args.exactly.Goals as goal
 
 pub returns-then-args-count : goal.returns-then-args-count
 returns-then-args-count c =
-    c.all-of.ensures ∙ exact_yes (sort_at (views_of c.args.terms.now)) c.args.sort c.args.args.now c.args.count c.if-args-count.true
+    c.all_of.ensures ∙ exact_yes (sort_at (views_of c.args.terms.now)) c.args.sort c.args.args.now c.args.count c.if-args-count.true
 
 pub returns-else-args-count : goal.returns-else-args-count
 returns-else-args-count c =

@@ -5,16 +5,16 @@ use Rattle.meaning.specs.Proper.{sort_at}
 use Rattle.sorting.proofs.Sorts.{pair_yes, pair_no}
 use Rattle.sorting.proofs.args.pair.Goals as goal
 
-pub sort-of-requires : goal.sort-of-requires
-sort-of-requires c = All-get_or (λ n. n < length c.args.terms.now) c.args.args.now 0 0 (omega arith) c.requires
+pub sort_of-requires : goal.sort_of-requires
+sort_of-requires c = All-get_or (λ n. n < length c.args.terms.now) c.args.args.now 0 0 (omega arith) c.requires
 
-pub sort-of-requires-then-args-eq2 : goal.sort-of-requires-then-args-eq2
-sort-of-requires-then-args-eq2 c = All-get_or (λ n. n < length c.args.terms.now) c.args.args.now 1 0 (omega arith) c.requires
+pub sort_of-requires-then-args-eq2 : goal.sort_of-requires-then-args-eq2
+sort_of-requires-then-args-eq2 c = All-get_or (λ n. n < length c.args.terms.now) c.args.args.now 1 0 (omega arith) c.requires
 
 pub returns-then-args-eq2 : goal.returns-then-args-eq2
 returns-then-args-eq2 c =
-    let first = c.sort-of.ensures in
-    let second = c.sort-of-then-args-eq2.ensures in
+    let first = c.sort_of.ensures in
+    let second = c.sort_of-then-args-eq2.ensures in
     let same = c.same_sort_lem.ensures in
     let is = pair_yes (sort_at (views_of c.args.terms.now)) c.args.args.now c.if-args-eq2.true in
     cc

@@ -6,7 +6,7 @@ use Rattle.sorting.proofs.args.several.Goals as goal
 
 pub returns-then-args-ge2 : goal.returns-then-args-ge2
 returns-then-args-ge2 c =
-    c.all-of.ensures ∙ several_yes (sort_at (views_of c.args.terms.now)) c.args.sort c.args.args.now c.if-args-ge2.true
+    c.all_of.ensures ∙ several_yes (sort_at (views_of c.args.terms.now)) c.args.sort c.args.args.now c.if-args-ge2.true
 
 pub returns-else-args-ge2 : goal.returns-else-args-ge2
 returns-else-args-ge2 c =

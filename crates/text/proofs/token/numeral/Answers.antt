@@ -5,11 +5,11 @@ use Rattle.text.proofs.token.numeral.Goals as goal
 pub loop-b-init : goal.loop-b-init
 loop-b-init c = record { small = omega arith; value = refl; digits = refl }
 
-pub returns-in-default : goal.returns-in-default
-returns-in-default c = search (rules, stray)
+pub returns-in_default : goal.returns-in_default
+returns-in_default c = search (rules, stray)
 
-pub returns-in-default·2 : goal.returns-in-default·2
-returns-in-default·2 c = search (rules, stray)
+pub returns-in_default-2 : goal.returns-in_default-2
+returns-in_default-2 c = search (rules, stray)
 
 pub returns-then-value-gt-LARGEST : goal.returns-then-value-gt-LARGEST
 returns-then-value-gt-LARGEST c = search (rules, large)

@@ -12,4 +12,4 @@ returns-then-at-self c =
 pub returns : goal.returns
 unfolding left
 returns c =
-    next_part piece c.args.self.now.text.now _ _ c.skip-at.ensures c.if-at-self.false _ c.piece-end-end.ensures.value
+    next_part piece c.args.self.now.text.now _ _ c.skip-at.ensures c.if-at-self.false _ c.piece_end-end.ensures.value
