@@ -1,4 +1,5 @@
 //! The referee of `resolution` and `th_resolution`: what follows from clauses by a chain.
+#![tactic(auto)]
 mod judge;
 mod outcome;
 mod search;

@@ -1,4 +1,5 @@
 //! The referee for the rules of the Boolean connectives.
+#![tactic(auto)]
 mod connectives;
 mod find;
 mod fit;

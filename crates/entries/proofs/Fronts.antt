@@ -1,7 +1,7 @@
 -- The front of an array: what a constructor copies into it, and what `==` says of two.
-use Rattle.std.proofs.Common.{◌≡◌, ℕ, ◌-◌, ◌≤◌, min, Bool, List, ◌++◌, length, take, Decides, sym, refl, ap, ◌∙◌, ⊎_elim, arith}
+use Rattle.std.proofs.Common.{◌≡◌, ℕ, ◌-◌, nat_eq, ◌≤◌, min, Bool, List, ◌++◌, length, take, Decides, sym, refl, ap, ◌∙◌, ⊎_elim, arith}
 use borrow.Rule.Slice.PartMut.{mid_of}
-use Rattle.std.specs.Cmp.Lexicographic.{Matches}
+use Rattle.std.specs.Cmp.Lexicographic.{pointwise}
 use Rattle.std.proofs.lemmas.Slice.Eq.{slice_eq-Decides}
 use Rattle.std.proofs.lemmas.List.{length-take, take_at, take_all}
 use Rattle.std.proofs.lemmas.Bool.{cases_lt}
@@ -25,8 +25,8 @@ kept_front xs front rest n most is copied =
     take_at front rest n l ∙ e ∙ ap (λ k. take k xs) is ∙ take_min xs most
 
 -- `&xs[0..n] == &ys[0..m]`, at elements whose `==` decides `≡`
-pub fronts_decide : {X : Type 0} (xs ys : List X) (n m : ℕ) (r : Bool) →
-    Matches (λ (a b : X) (t : Bool). Decides t (a ≡ b)) (mid_of 0 (n - 0) xs) (mid_of 0 (m - 0) ys) r →
+pub fronts_decide : (xs ys : List ℕ) (n m : ℕ) (r : Bool) →
+    r ≡ pointwise nat_eq (mid_of 0 (n - 0) xs) (mid_of 0 (m - 0) ys) →
     Decides r (take n xs ≡ take m ys)
 fronts_decide xs ys n m r h =
     let p : n - 0 ≡ n = omega arith in

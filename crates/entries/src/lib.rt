@@ -1,4 +1,5 @@
 //! What the lists hold: words, names, terms, literals, clauses; and the one search through them.
+#![tactic(auto)]
 mod clause;
 mod entry;
 mod filing;

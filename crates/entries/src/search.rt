@@ -2,7 +2,7 @@
 ghost use Rattle.std.specs.Prelude.{◌≡◌, take, Decides};
 ghost use Rattle.entries.specs.First.{First};
 ghost use Rattle.entries.specs.Views.{word_of, term_of};
-ghost use Rattle.std.proofs.Common.{rules, arith};
+ghost use Rattle.std.proofs.Common.{refl, sym, ◌∙◌};
 
 use crate::entry::{Literal, Name, Symbol, Term};
 
@@ -24,11 +24,11 @@ pub trait Entry {
 impl Entry for Symbol {
     ghost alike = { λ x y. word_of x ≡ word_of y };
 
-    ghost reflexive = { first_of (Prim.search rules, Prim.grind (arith, Self.row.coded.inj)) };
+    ghost reflexive = { λ x. refl };
 
-    ghost symmetric = { first_of (Prim.search rules, Prim.grind (arith, Self.row.coded.inj)) };
+    ghost symmetric = { λ x y e. sym e };
 
-    ghost transitive = { first_of (Prim.search rules, Prim.grind (arith, Self.row.coded.inj)) };
+    ghost transitive = { λ x y z d e. d ∙ e };
 
     fn same(&self, other: &Symbol) -> bool {
         let n = self.len as usize;
@@ -41,11 +41,11 @@ impl Entry for Symbol {
 impl Entry for Name {
     ghost alike = { λ x y. word_of x.word ≡ word_of y.word };
 
-    ghost reflexive = { first_of (Prim.search rules, Prim.grind (arith, Self.row.coded.inj)) };
+    ghost reflexive = { λ x. refl };
 
-    ghost symmetric = { first_of (Prim.search rules, Prim.grind (arith, Self.row.coded.inj)) };
+    ghost symmetric = { λ x y e. sym e };
 
-    ghost transitive = { first_of (Prim.search rules, Prim.grind (arith, Self.row.coded.inj)) };
+    ghost transitive = { λ x y z d e. d ∙ e };
 
     fn same(&self, other: &Name) -> bool {
         self.word.same(&other.word)
@@ -56,11 +56,11 @@ impl Entry for Name {
 impl Entry for Term {
     ghost alike = { λ x y. term_of x ≡ term_of y };
 
-    ghost reflexive = { first_of (Prim.search rules, Prim.grind (arith, Self.row.coded.inj)) };
+    ghost reflexive = { λ x. refl };
 
-    ghost symmetric = { first_of (Prim.search rules, Prim.grind (arith, Self.row.coded.inj)) };
+    ghost symmetric = { λ x y e. sym e };
 
-    ghost transitive = { first_of (Prim.search rules, Prim.grind (arith, Self.row.coded.inj)) };
+    ghost transitive = { λ x y z d e. d ∙ e };
 
     fn same(&self, other: &Term) -> bool {
         let n = self.count as usize;
@@ -79,11 +79,11 @@ impl Entry for Term {
 impl Entry for Literal {
     ghost alike = { λ x y. x ≡ y };
 
-    ghost reflexive = { Prim.search rules };
+    ghost reflexive = { λ x. refl };
 
-    ghost symmetric = { Prim.search rules };
+    ghost symmetric = { λ x y e. sym e };
 
-    ghost transitive = { Prim.search rules };
+    ghost transitive = { λ x y z d e. d ∙ e };
 
     fn same(&self, other: &Literal) -> bool {
         self.term == other.term && self.negative == other.negative
@@ -92,7 +92,7 @@ impl Entry for Literal {
 
 /// The place of the first of the first `count` entries that is equal to `sought`.
 pub fn position<E: Entry>(list: &[E], count: usize, sought: &E) -> Option<usize>
-    ensures { First (λ x. alike x sought.now) (take count list.now) result }
+    ensures { First (λ x. E.alike x sought.now) (take count list.now) result }
 {
     for i in 0..count.min(list.len()) {
         if list[i].same(sought) {

@@ -1,4 +1,5 @@
 //! The referee for the rules of equality.
+#![tactic(auto)]
 mod cong;
 mod congruent;
 mod heads;

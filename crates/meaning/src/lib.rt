@@ -1,4 +1,5 @@
 //! What terms mean: readings, values, and where literals and clauses are true.
+#![tactic(auto)]
 mod read;
 #[cfg(test)]
 mod tests;

@@ -1,4 +1,5 @@
 //! What judges one step of a proof by its rule: questions, rulings, referees, and pairs of them.
+#![tactic(auto)]
 mod names;
 mod nobody;
 mod pair;

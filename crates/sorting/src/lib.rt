@@ -1,4 +1,5 @@
 //! Which heads take which arguments: the counts and sorts of terms.
+#![tactic(auto)]
 mod args;
 mod heads;
 
