@@ -59,8 +59,8 @@ module _ (ts : List Term) (formed : Formed (map term_of ts)) (n at : ℕ) (s : B
   strip_done e = sym (own s at) ∙ ap (turned s) (sym (literal_own formed.0 (map term_of ts) formed.1 at within e)) ∙ inv
 
 -- the literal's term does not stand after the term
-pub term_of : (ts : List Term) (n : ℕ) (l : Literal) → Formed (map term_of ts) → n < length ts → l ≡ literal_of (map term_of ts) n → l.term ≤ n
-term_of ts n l formed h e =
+pub term_of_lem : (ts : List Term) (n : ℕ) (l : Literal) → Formed (map term_of ts) → n < length ts → l ≡ literal_of (map term_of ts) n → l.term ≤ n
+term_of_lem ts n l formed h e =
     omega (arith, ap (λ (m : Literal). m.term) e, literal_within formed.0 (map term_of ts) formed.1 n (omega (arith, length-map ts term_of)))
 
 -- the literal is true where the term is
