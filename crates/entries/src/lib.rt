@@ -1,5 +1,6 @@
 //! What the lists hold: words, names, terms, literals, clauses; and the one search through them.
 #![tactic(auto)]
+
 mod clause;
 mod entry;
 mod filing;

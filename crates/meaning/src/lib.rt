@@ -1,5 +1,6 @@
 //! What terms mean: readings, values, and where literals and clauses are true.
 #![tactic(auto)]
+
 mod read;
 #[cfg(test)]
 mod tests;

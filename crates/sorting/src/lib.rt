@@ -1,5 +1,6 @@
 //! Which heads take which arguments: the counts and sorts of terms.
 #![tactic(auto)]
+
 mod args;
 mod heads;
 

@@ -1,5 +1,6 @@
 //! The token layer: from the bytes of a command to its tokens.
 #![tactic(auto)]
+
 mod bytes;
 mod reader;
 mod spans;

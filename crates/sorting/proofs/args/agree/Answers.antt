@@ -18,11 +18,11 @@ sort_of-requires c = All-get_or (λ n. n < length c.args.terms.now) c.args.args.
 
 pub returns-then-not-same_sort : goal.returns-then-not-same_sort
 returns-then-not-same_sort c =
-    agree_broken (sort_at (views_of c.args.terms.now)) c.args.args.now c.args.sorts.now c.loop-i.i c.loop-i-test.true c.if-args-sorts.false c.loop-i.invariant _ c.sort_of.ensures (sym c.same_sort_lem.ensures ∙ c.if-not-same_sort.true)
+    agree_broken (sort_at (views_of c.args.terms.now)) c.args.args.now c.args.sorts.now c.loop-i.i c.loop-i-test.true c.if-args-sorts.false c.loop-i.invariant _ c.sort_of.ensures (sym c.same_sort.ensures ∙ c.if-not-same_sort.true)
 
 pub loop-i-preserved : goal.loop-i-preserved
 loop-i-preserved c =
-    agree_next (sort_at (views_of c.args.terms.now)) c.args.args.now c.args.sorts.now c.loop-i.i c.loop-i-test.true c.if-args-sorts.false c.loop-i.invariant _ c.sort_of.ensures (sym c.same_sort_lem.ensures ∙ c.if-not-same_sort.false)
+    agree_next (sort_at (views_of c.args.terms.now)) c.args.args.now c.args.sorts.now c.loop-i.i c.loop-i-test.true c.if-args-sorts.false c.loop-i.invariant _ c.sort_of.ensures (sym c.same_sort.ensures ∙ c.if-not-same_sort.false)
 
 pub returns : goal.returns
 returns c = agree_done (sort_at (views_of c.args.terms.now)) c.args.args.now c.args.sorts.now c.loop-i.i c.if-args-sorts.false c.loop-i.invariant c.loop-i-test.false

@@ -14,11 +14,11 @@ sort_of-requires c = All-get_or (λ n. n < length c.args.terms.now) c.args.args.
 
 pub returns-then-not-same_sort : goal.returns-then-not-same_sort
 returns-then-not-same_sort c =
-    all_broken (sort_at (views_of c.args.terms.now)) c.args.sort c.args.args.now c.loop-n.n-index c.loop-n.invariant c.loop-n-test.true (ap (λ t. same_sort t c.args.sort) (sym c.sort_of.ensures) ∙ sym c.same_sort_lem.ensures ∙ c.if-not-same_sort.true)
+    all_broken (sort_at (views_of c.args.terms.now)) c.args.sort c.args.args.now c.loop-n.n-index c.loop-n.invariant c.loop-n-test.true (ap (λ t. same_sort t c.args.sort) (sym c.sort_of.ensures) ∙ sym c.same_sort.ensures ∙ c.if-not-same_sort.true)
 
 pub loop-n-preserved : goal.loop-n-preserved
 loop-n-preserved c =
-    all_next (sort_at (views_of c.args.terms.now)) c.args.sort c.args.args.now c.loop-n.n-index c.loop-n.invariant c.loop-n-test.true (ap (λ t. same_sort t c.args.sort) (sym c.sort_of.ensures) ∙ sym c.same_sort_lem.ensures ∙ c.if-not-same_sort.false)
+    all_next (sort_at (views_of c.args.terms.now)) c.args.sort c.args.args.now c.loop-n.n-index c.loop-n.invariant c.loop-n-test.true (ap (λ t. same_sort t c.args.sort) (sym c.sort_of.ensures) ∙ sym c.same_sort.ensures ∙ c.if-not-same_sort.false)
 
 pub returns : goal.returns
 returns c = all_done (sort_at (views_of c.args.terms.now)) c.args.sort c.args.args.now c.loop-n.n-index c.loop-n.invariant c.loop-n-test.false

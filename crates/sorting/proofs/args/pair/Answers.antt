@@ -15,7 +15,7 @@ pub returns-then-args-eq2 : goal.returns-then-args-eq2
 returns-then-args-eq2 c =
     let first = c.sort_of.ensures in
     let second = c.sort_of-then-args-eq2.ensures in
-    let same = c.same_sort_lem.ensures in
+    let same = c.same_sort.ensures in
     let is = pair_yes (sort_at (views_of c.args.terms.now)) c.args.args.now c.if-args-eq2.true in
     cc
 
