@@ -9,7 +9,7 @@ fn counts(rt: &impl Abort, text: &[u8], tokens: usize) -> Result<(), Fail> {
             assert_eq!(rt; count, tokens);
             Ok(())
         },
-        Err(fault) => Err(Fail::new("a fault")).note(fault),
+        Err(fault) => panic!(rt; "a fault: {fault}"),
     }
 }
 
@@ -66,7 +66,7 @@ fn reads(rt: HostRuntime) -> Result<(), Fail> {
     match reader.next() {
         Ok(Some(Token::Keyword { at, text })) => {
             assert_eq!(rt; at, 1);
-            assert!(rt; text == b"rule");
+            assert!(rt; text == b"rule".as_slice());
         }
         _ => return Err(Fail::new("no keyword")),
     }
