@@ -1,5 +1,5 @@
 -- The front of an array: what a constructor copies into it, and what `==` says of two.
-use Rattle.std.proofs.Common.{◌≡◌, ℕ, ◌-◌, nat_eq, ◌≤◌, min, Bool, List, ◌++◌, length, take, Decides, sym, refl, ap, ◌∙◌, ⊎_elim, arith}
+use Rattle.std.proofs.Common.{◌≡◌, ℕ, ◌-◌, nat_eq, min, Bool, List, ◌++◌, length, take, Decides, sym, ap, ◌∙◌, ⊎_elim, arith}
 use borrow.Rule.Slice.PartMut.{mid_of}
 use Rattle.std.specs.Cmp.Lexicographic.{pointwise}
 use Rattle.std.proofs.lemmas.Slice.Eq.{slice_eq-Decides}

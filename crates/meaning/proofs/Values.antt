@@ -1,5 +1,5 @@
 -- What the values of a proper list are.
-use Rattle.std.proofs.Common.{◌≡◌, ℕ, ◌<◌, Bool, true, false, not, ◌&&◌, ◌||◌, ltb, List, [], ◌∷◌, ◌++◌, map, length, ℤ, pos, negsuc, Decides, sym, refl, ap, ◌∙◌, subst, inl, inr, arith}
+use Rattle.std.proofs.Common.{◌≡◌, ℕ, ◌<◌, Bool, true, false, not, ◌&&◌, ◌||◌, ltb, List, [], ◌∷◌, map, length, ℤ, pos, negsuc, Decides, sym, refl, ap, ◌∙◌, subst, inl, inr, arith}
 use lib.Signed.{le_z, lt_z}
 use Rattle.std.specs.List.{AllByRecursion as All}
 use Rattle.std.proofs.lemmas.List.{length-map}
@@ -10,7 +10,7 @@ use Rattle.entries.specs.declared.entry.Head.{Head}
 use Rattle.entries.specs.declared.entry.Head.TheVariants as head
 use Rattle.entries.specs.Views.{NameView, TermView}
 use Rattle.meaning.specs.Laws.{ValuesKept, BoolBits, TrueAtOne}
-use Rattle.meaning.specs.Proper.{term_at, sort_at, well_formed, scales, Proper}
+use Rattle.meaning.specs.Proper.{term_at, sort_at, scales, Proper}
 use Rattle.meaning.specs.Sorts.{name_at, same_sorts, takes_sorts, gives_sort}
 use Rattle.meaning.specs.Values.{Reading, Fits, Bit, some, every, same_value, holds, fact, value, value_of, is_true}
 use Rattle.meaning.proofs.Built.{built_kept, built_at}

@@ -5,10 +5,7 @@ use Rattle.std.proofs.lemmas.Bool.{le-leb}
 use Rattle.std.proofs.lemmas.Bool.Decides.{nat_tests}
 use Rattle.entries.specs.declared.entry.Sort.{Sort}
 use Rattle.entries.specs.declared.entry.Sort.TheVariants as sort
-use Rattle.entries.specs.declared.entry.Term.{Term}
 use Rattle.entries.specs.Equality.{same_sort}
-use Rattle.entries.specs.Views.{term_of, views_of}
-use Rattle.meaning.specs.Proper.{sort_at, term_at}
 use Rattle.meaning.specs.Sorts.{all, many, twins, same_sorts}
 
 -- the test, with a function to sorts in place of the list

@@ -1,17 +1,12 @@
 -- The first fault among a text's tokens is the leftmost.
-use Rattle.std.proofs.Common.{◌≡◌, ℕ, suc, ◌+◌, ◌<◌, ◌≤◌, Bool, true, false, cond, ltb, List, [], ◌∷◌, map, length, get_or, Some, None, Ok, Err, Result, sym, refl, ap, ◌∙◌, subst, arith}
+use Rattle.std.proofs.Common.{◌≡◌, ℕ, suc, ◌≤◌, List, [], ◌∷◌, map, Some, None, Ok, Err, Result, refl, ap, arith}
 use Rattle.std.specs.List.{ContainsAt as Has, AllByRecursion as All}
 use Rattle.std.proofs.ByRecursion.{All-weaker, All-map, all-has}
-use Rattle.std.proofs.lemmas.Bool.{cond_both}
-use Rattle.text.specs.Bytes.{kind}
-use Rattle.text.specs.Parts.{Part, parts_from}
-use Rattle.text.specs.Tokens.{Tok, opens, closes, symbol, keyword, numeral, fault, place_of, place, short, token_at, token_of, tokens, is_numeral, value_on, first_fault}
-use Rattle.text.specs.Layout.{Laid, end_of, Lexed}
+use Rattle.text.specs.Parts.{Part}
+use Rattle.text.specs.Tokens.{Tok, opens, closes, symbol, keyword, numeral, fault, place_of, place, token_of, tokens, first_fault}
+use Rattle.text.specs.Layout.{Laid, end_of}
 use Rattle.text.specs.Reading.{Scans, Leftmost}
-use Rattle.text.specs.declared.bytes.Kind.{Kind}
-use Rattle.text.specs.declared.bytes.Kind.TheVariants.{Blank, Comment, Open, Close, Colon, Digit, Initial, Other}
 use Rattle.text.specs.declared.token.TokenFault.{TokenFault}
-use Rattle.text.specs.declared.token.TokenFault.TheVariants.{Stray, BareColon, TooLong, BadNumeral}
 use Rattle.text.proofs.Places.{off, place_token}
 use Rattle.text.proofs.Shapes.{lexed}
 

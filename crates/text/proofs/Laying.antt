@@ -1,13 +1,13 @@
 -- A text is laid out by its parts.
-use Rattle.std.proofs.Common.{◌≡◌, ℕ, zero, suc, ◌+◌, ◌-◌, ◌<◌, ◌≤◌, Bool, true, false, cond, not, ◌⊎◌, List, [], ◌∷◌, length, get_or, take, drop, sym, refl, ap, ◌∙◌, subst, inl, inr, ⊎_elim, add-zero, one-add, arith, length-drop, length-take-le, get_or-drop}
-use Rattle.std.specs.List.{prefix_len, AllByRecursion as All}
+use Rattle.std.proofs.Common.{◌≡◌, ℕ, zero, suc, ◌+◌, ◌-◌, ◌<◌, ◌≤◌, Bool, true, false, cond, not, List, [], ◌∷◌, length, get_or, take, drop, sym, refl, ap, ◌∙◌, inl, inr, ⊎_elim, add-zero, one-add, arith, length-take-le, get_or-drop}
+use Rattle.std.specs.List.{prefix_len}
 use Rattle.std.proofs.lemmas.List.{drop-drop}
 use Rattle.std.proofs.lemmas.List.Sums.{prefix_len-le-length}
 use Rattle.std.proofs.lemmas.Bool.{cases_lt, cases_eq, cond_both}
 use Rattle.std.proofs.lemmas.Bool.Decides.{nat_tests}
-use Rattle.text.specs.Bytes.{is_name, is_blank, is_semicolon, in_line, ends_line}
+use Rattle.text.specs.Bytes.{is_blank, is_semicolon, in_line, ends_line}
 use Rattle.text.specs.Parts.{Part, Reach, parts, parts_from}
-use Rattle.text.specs.Layout.{InComment, Gap, Stands, end_of, Laid}
+use Rattle.text.specs.Layout.{Gap, Stands, Laid}
 
 below_cond : (b : Bool) (m k : ℕ) → k < cond b m 0 → (b ≡ true) × (k < m)
 below_cond true m k lt = (refl, lt)

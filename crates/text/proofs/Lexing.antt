@@ -1,9 +1,9 @@
 -- The tokens from a place on, by what stands there.
-use Rattle.std.proofs.Common.{◌≡◌, ℕ, zero, suc, ◌+◌, ◌-◌, ◌<◌, ◌≤◌, true, false, List, [], ◌∷◌, map, length, get_or, take, drop, sym, refl, ap, ◌∙◌, arith}
+use Rattle.std.proofs.Common.{◌≡◌, ℕ, zero, suc, ◌+◌, ◌-◌, ◌<◌, ◌≤◌, List, [], ◌∷◌, map, length, get_or, take, drop, sym, refl, ap, ◌∙◌, arith}
 use Rattle.std.proofs.lemmas.List.{take_rest, length-map}
 use Rattle.std.proofs.lemmas.Bool.{cond_both}
 use Rattle.std.proofs.lemmas.Bool.Decides.{nat_tests}
-use Rattle.text.specs.Bytes.{is_blank, is_semicolon, in_line, kind}
+use Rattle.text.specs.Bytes.{is_blank, is_semicolon, kind}
 use Rattle.text.specs.Parts.{Part, Reach, parts, parts_from, Skips}
 use Rattle.text.specs.Tokens.{Tok, keyword, place, short, token_at, token_of, lexeme, tokens_from}
 use Rattle.text.specs.declared.bytes.Kind.TheVariants.{Colon}

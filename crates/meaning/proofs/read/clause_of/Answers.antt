@@ -1,6 +1,5 @@
-use Rattle.std.proofs.Common.{◌≡◌, ◌<◌, map, length}
+use Rattle.std.proofs.Common.{◌<◌, map, length}
 use Rattle.std.proofs.ByRecursion.{All-get_or}
-use Rattle.entries.specs.Clauses.{clause_from}
 use Rattle.entries.specs.Views.{term_of, clause_of}
 use Rattle.meaning.specs.Truth.{literal_of}
 use Rattle.meaning.proofs.Clauses.{written_more, written_all, clause_within, clause_truth_of}

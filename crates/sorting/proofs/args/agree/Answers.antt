@@ -1,8 +1,6 @@
-use Rattle.std.proofs.Common.{◌<◌, length, get_or, sym, refl, ap, ◌∙◌}
+use Rattle.std.proofs.Common.{◌<◌, length, sym, refl, ◌∙◌}
 use Rattle.std.proofs.ByRecursion.{All-get_or}
-use Rattle.entries.specs.Equality.{same_sort}
 use Rattle.entries.specs.Views.{views_of}
-use Rattle.entries.specs.declared.entry.Sort.TheVariants as sort
 use Rattle.meaning.specs.Proper.{sort_at}
 use Rattle.sorting.proofs.Sorts.{apart, agree_broken, agree_next, agree_done}
 use Rattle.sorting.proofs.args.agree.Goals as goal

@@ -1,6 +1,6 @@
 use Rattle.std.proofs.Common.{List, ap}
 use Rattle.entries.specs.declared.entry.Sort.{Sort}
-use Rattle.entries.specs.Views.{NameView, word_of}
+use Rattle.entries.specs.Views.{word_of}
 use Rattle.entries.proofs.Fronts.{kept_front}
 use Rattle.entries.proofs.entry.Name.new.Goals as goal
 

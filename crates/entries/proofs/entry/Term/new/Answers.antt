@@ -1,5 +1,4 @@
 use Rattle.std.proofs.Common.{ℕ, List, ap}
-use Rattle.entries.specs.Views.{TermView}
 use Rattle.entries.proofs.Fronts.{kept_front}
 use Rattle.entries.proofs.entry.Term.new.Goals as goal
 
