@@ -1,1 +1,3 @@
+pub mod Closures
 pub mod Tables
+pub mod Rulings

@@ -1,6 +1,6 @@
 -- A set of literals as a list of answers: reads, writes, and how a search goes on with it.
 use Rattle.std.proofs.Common.{◌≡◌, ℕ, zero, suc, ◌+◌, ◌-◌, ◌<◌, ◌≤◌, Bool, true, false, ◌⊎◌, List, [], ◌∷◌, ◌++◌, map, length, get_or, take, drop, set, replicate, Some, None, Option, sym, refl, ap, ◌∙◌, subst, inl, inr, suc-le-suc, arith}
-use Rattle.std.specs.List.{ContainsAt as Has, AllByRecursion as All}
+use Rattle.std.specs.List.{ContainsAt as Has, AllByRecursion}
 use Rattle.std.proofs.ByRecursion.{all-has, All-get_or, has_get_or, has_append_left, has_push, has_push_cases}
 use Rattle.std.proofs.lemmas.List.{length-set, length-map, take-append-drop, get_or-set_same, get_or-set_other, take_more, drop_more, drop_all, get_or-map}
 use Rattle.std.proofs.lemmas.Bool.{cases_eq, both_ways, false≢true, true≢false}
@@ -276,5 +276,5 @@ placed_read c i h w = All-get_or (λ (m : Literal). m.term < 4096) c i (positive
 pub placed_unit : (p : List Literal) (i : ℕ) (s : List Bool) (u : Literal) → ButOne (take i p) s u → Placed p → u.term < 4096
 placed_unit p i s u f w = all-has (λ (m : Literal). m.term < 4096) p u w (has_take i p u f.has)
 
-pub placed_one : (ps : List (List Literal)) (p q : List Literal) (s : List Bool) (u : Literal) → p ≡ q → Has ps q → ButOne p s u → All Placed ps → u.term < 4096
+pub placed_one : (ps : List (List Literal)) (p q : List Literal) (s : List Bool) (u : Literal) → p ≡ q → Has ps q → ButOne p s u → AllByRecursion Placed ps → u.term < 4096
 placed_one ps p q s u e h f w = all-has (λ (m : Literal). m.term < 4096) p u (subst Placed (sym e) (all-has Placed ps q w h)) f.has

@@ -1,5 +1,5 @@
 -- What follows from clauses by a chain of resolution: over clauses of any length, any number of them.
-use Rattle.std.specs.Prelude.{◌≡◌, ◌⊎◌, List, [], ◌≢◌}
+use Rattle.std.specs.Prelude.{◌⊎◌, List, [], ◌≢◌}
 use Rattle.std.specs.List.{ContainsAt as Has}
 use Rattle.entries.specs.declared.entry.Literal.{Literal}
 use Rattle.entries.specs.Clauses.{complement_of}

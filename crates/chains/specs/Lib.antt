@@ -4,7 +4,7 @@ pub mod Laws
 pub mod Rule
 pub mod Sets
 pub mod Cases
-pub mod Rulings
-pub mod Closures
 pub mod Members
 pub mod Entails
+pub mod Derives
+pub mod Lawful

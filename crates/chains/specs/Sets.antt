@@ -1,6 +1,6 @@
 -- A set of literals as a list of 8,192 answers, and what the parts of the search say of it.
 use Rattle.std.specs.Prelude.{◌≡◌, ℕ, suc, ◌+◌, ◌*◌, ◌<◌, ◌≤◌, Bool, true, false, cond, List, [], ◌∷◌, length, ◌≢◌, slice_index_or}
-use Rattle.std.specs.List.{ContainsAt as Has, AllByRecursion as All}
+use Rattle.std.specs.List.{ContainsAt as Has, AllByRecursion}
 use Rattle.entries.specs.declared.entry.Literal.{Literal}
 use Rattle.entries.specs.Clauses.{complement_of}
 use Rattle.chains.specs.Chain.{Derived, Refutes}
@@ -19,7 +19,7 @@ Holds set l = slice_index_or set (place_at l.negative l.term) false ≡ true
 
 -- The terms of the literals have places in the set.
 abbrev pub Placed : List Literal → Type 0
-Placed c = All (λ (l : Literal). l.term < 4096) c
+Placed c = AllByRecursion (λ (l : Literal). l.term < 4096) c
 
 -- The literals of a premise, without u, have their complement in the set.
 abbrev pub Others : List Literal → List Bool → Literal → Type 0

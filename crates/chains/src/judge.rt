@@ -1,7 +1,7 @@
 //! The referee of chains.
 ghost use Rattle.std.specs.Prelude.{◌≡◌};
 ghost use Rattle.chains.specs.Rule.{chains};
-ghost use Rattle.chains.specs.Rulings.{chains_lawful, chains_modest};
+ghost use Rattle.chains.specs.Lawful.{chains_lawful, chains_modest};
 
 use crate::search::follows;
 use referee::{Question, Referee, Ruling, same_name};

@@ -1,5 +1,6 @@
 //! The referee of `resolution` and `th_resolution`: what follows from clauses by a chain.
 #![tactic(auto)]
+
 mod judge;
 mod outcome;
 mod search;

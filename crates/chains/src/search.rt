@@ -1,7 +1,7 @@
 //! The search for a literal and its complement: a set of literals that grows until no premise adds
 //! to it.
 ghost use Rattle.std.specs.Prelude.{◌≡◌, ℕ, ◌<◌, true, false, map, length, Decides, slice_index_or};
-ghost use Rattle.std.specs.List.{AllByRecursion as All};
+ghost use Rattle.std.specs.List.{AllByRecursion};
 ghost use Rattle.entries.specs.Views.{clause_of};
 ghost use Rattle.chains.specs.Chain.{Refutes};
 ghost use Rattle.chains.specs.Sets.{place_at, Placed, Left, Passed, Seeded};
@@ -75,7 +75,7 @@ fn seed(clause: &[Literal], set: &mut [bool]) -> bool
 /// order in which they are resolved, so what the last ones force helps the ones before them.
 fn pass(premises: &[Clause], set: &mut [bool]) -> Outcome
     requires len { length set.old ≡ 8192 }
-    requires placed { All Placed (map clause_of premises.now) }
+    requires placed { AllByRecursion Placed (map clause_of premises.now) }
     ensures { Passed (map clause_of premises.now) set.old set.new result }
 {
     let mut grew = false;
@@ -98,7 +98,7 @@ fn pass(premises: &[Clause], set: &mut [bool]) -> Outcome
 /// Whether the clause follows from the premises by a chain.
 pub(crate) fn follows(clause: &[Literal], premises: &[Clause]) -> bool
     requires clause { Placed clause.now }
-    requires premises { All Placed (map clause_of premises.now) }
+    requires premises { AllByRecursion Placed (map clause_of premises.now) }
     ensures { Decides result (Refutes clause.now (map clause_of premises.now)) }
 {
     let mut set = [false; PLACES];

@@ -1,4 +1,6 @@
 //! One command through the layers, and what it comes to.
+#![tactic(auto)]
+
 mod chatter;
 mod fault;
 mod form;

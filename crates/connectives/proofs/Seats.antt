@@ -1,6 +1,6 @@
 -- A search for T where it stands finds each T that there is.
-use Rattle.std.proofs.Common.{◌≡◌, ℕ, ◌<◌, Bool, true, false, not, eqb, List, [], ◌∷◌, map, length, get_or, Some, None, Option, sym, refl, ap, ◌∙◌, subst, arith}
-use Rattle.std.specs.List.{AllByRecursion as All}
+use Rattle.std.proofs.Common.{◌≡◌, ℕ, ◌<◌, Bool, true, false, eqb, List, [], ◌∷◌, map, length, get_or, Some, None, Option, sym, refl, ap, ◌∙◌, subst, arith}
+use Rattle.std.specs.List.{AllByRecursion}
 use Rattle.std.proofs.ByRecursion.{All-get_or}
 use Rattle.std.proofs.lemmas.List.{length-map}
 use Rattle.std.proofs.lemmas.Bool.{and_parts, eqb-true, not-true, false≢true}
@@ -108,17 +108,17 @@ module _ (q : Asked) (r : Rule) where
       let own = literal_own formed.0 q.terms formed.1 t h (begins_no_not r.connective (term_at q.terms t).head k.0) in
       found_by t (turned_by u.0 (literal_of q.terms t)) (turned_term u.0 (literal_of q.terms t) ∙ ap (λ (z : Literal). z.term) own) u.1 e
 
-  seat_to : All (Among q.terms) looked_at → some fitting looked_at ≡ true → meets q r ≡ true
+  seat_to : AllByRecursion (Among q.terms) looked_at → some fitting looked_at ≡ true → meets q r ≡ true
   seat_to within e =
       let x = some_where fitting looked_at (positive 0) e in
       let l = get_or looked_at x.0 (positive 0) in
       below_at (length q.terms) (fits_as q r) l.term (All-get_or (Among q.terms) looked_at x.0 (positive 0) x.1 within) x.2
 
   -- the literals of a question are among its terms
-  seat_among : Posed q → All (Among q.terms) looked_at
+  seat_among : Posed q → AllByRecursion (Among q.terms) looked_at
   seat_among posed = go q.premises posed.premises
     where
-      go : (premises : List (List Literal)) → All (All (Among q.terms)) premises → All (Among q.terms) (seat_of q.clause premises)
+      go : (premises : List (List Literal)) → AllByRecursion (AllByRecursion (Among q.terms)) premises → AllByRecursion (Among q.terms) (seat_of q.clause premises)
       go [] w = posed.clause
       go (c ∷ cs) w = w.0
 
@@ -131,6 +131,6 @@ module _ (q : Asked) (r : Rule) where
 
     pub seat_within : (ts : List Term) → q.terms ≡ views_of ts → (i : ℕ) → i < length ls → (get_or ls i (positive 0)).term < length ts
     seat_within ts e i h =
-        let among = All-get_or (Among q.terms) ls i (positive 0) h (subst (All (Among q.terms)) (sym is) (seat_among posed)) in
+        let among = All-get_or (Among q.terms) ls i (positive 0) h (subst (AllByRecursion (Among q.terms)) (sym is) (seat_among posed)) in
         let long = ap length e in
         omega (arith, length-map ts term_of)

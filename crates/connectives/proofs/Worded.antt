@@ -1,6 +1,6 @@
 -- The tests and the words agree.
 use Rattle.std.proofs.Common.{◌≡◌, ℕ, zero, suc, ◌<◌, Bool, true, false, cond, not, ◌&&◌, ltb, List, [], ◌∷◌, ◌++◌, map, length, get_or, Some, None, Option, sym, refl, ap, ◌∙◌, subst, inl, inr, arith}
-use Rattle.std.specs.List.{ContainsAt as Has, AllByRecursion as All}
+use Rattle.std.specs.List.{ContainsAt as Has, AllByRecursion}
 use Rattle.std.specs.Str.{bytes_eq}
 use Rattle.std.proofs.ByRecursion.{all-has, all_has_itself, All-weaker, has_get_or}
 use Rattle.std.proofs.lemmas.Slice.Eq.{bytes_eq-Decides}
@@ -36,7 +36,7 @@ use Rattle.connectives.specs.Counts.{below_where, below_at}
 use Rattle.connectives.specs.Valid.{picked_below, rule_shows}
 
 -- ---- lists
-every_from : {X : Type 0} (f : X → Bool) (xs : List X) → All (λ x. f x ≡ true) xs → every f xs ≡ true
+every_from : {X : Type 0} (f : X → Bool) (xs : List X) → AllByRecursion (λ x. f x ≡ true) xs → every f xs ≡ true
 every_from f [] w = refl
 every_from f (x ∷ xs) w = and_from (f x) (every f xs) w.0 (every_from f xs w.1)
 

@@ -1,7 +1,7 @@
 -- The situations of each connective: whether T is true, and what is then known of its arguments.
 use Rattle.std.specs.Prelude.{◌≡◌, ℕ, ◌<◌, Bool, true, false, cond, not, ◌||◌, ◌⊎◌, List, [], ◌∷◌, length, take, drop, ℤ, pos, slice_index, refl}
 use Rattle.std.proofs.Common.{inl, inr, sym, ap, ◌∙◌, subst, arith}
-use Rattle.std.specs.List.{AllByRecursion as All}
+use Rattle.std.specs.List.{AllByRecursion}
 use Rattle.std.proofs.ByRecursion.{All-get_or}
 use Rattle.std.proofs.lemmas.List.{drop_more}
 use Rattle.std.proofs.lemmas.Bool.{cases_Bool, and_parts, false≢true}
@@ -50,7 +50,7 @@ situations connective.Equiv =
 -- what it says of truths `v` and arguments `ns`
 abbrev KnownTrue : (ℕ → Bool) → List ℕ → Known → Type 0
 KnownTrue v ns nothing = Unit {0}
-KnownTrue v ns (each b) = All (λ n. v n ≡ b) ns
+KnownTrue v ns (each b) = AllByRecursion (λ n. v n ≡ b) ns
 KnownTrue v ns (any b) = (k : ℕ) × (k < length ns) × (v (slice_index ns k) ≡ b)
 KnownTrue v ns (two x y) = (m n : ℕ) × (ns ≡ m ∷ n ∷ []) × (v m ≡ x) × (v n ≡ y)
 
@@ -177,7 +177,7 @@ module _ (ρ : Reading) (names : List NameView) (terms : List TermView) (ok : Pr
   equiv_arises : (term_at terms t).head ≡ head.Equal → every (λ n. same_sort (sort_at terms n) sort.Bool) ns ≡ true → Arises v t ns (situations connective.Equiv)
   equiv_arises e bools =
       let w = equal_args names terms ok t h e in
-      let below = subst (All (λ m. m < t)) w.2 (ok t h).before in
+      let below = subst (AllByRecursion (λ m. m < t)) w.2 (ok t h).before in
       let bs = every_all (λ n. same_sort (sort_at terms n) sort.Bool) (w.0 ∷ w.1 ∷ []) (ap (every (λ n. same_sort (sort_at terms n) sort.Bool)) (sym w.2) ∙ bools) in
       equal_two v t ns w.0 w.1 w.2 (v w.0) (v w.1) refl refl
       (equal_true ρ names terms ok t h w.0 w.1 w.2 e

@@ -1,7 +1,7 @@
 -- What a piece's terms are looked at for is what its literals are.
 use Rattle.std.specs.Prelude.{◌≡◌, ℕ, ◌<◌, Bool, true, false, ◌&&◌, ◌||◌, List, [], ◌∷◌, length, drop, refl}
 use Rattle.std.proofs.Common.{sym, ap, ◌∙◌, subst, arith}
-use Rattle.std.specs.List.{AllByRecursion as All}
+use Rattle.std.specs.List.{AllByRecursion}
 use Rattle.std.proofs.ByRecursion.{All-take, All-drop, All-weaker}
 use Rattle.std.proofs.lemmas.List.{length-map}
 use Rattle.std.proofs.lemmas.Bool.{true≢false}
@@ -29,11 +29,11 @@ and_by true y b e f = f
 and_by false y b e f = absurd (true≢false e)
 
 -- ---- what a letter stands for is among the terms
-pub stands_below : (m t i : ℕ) (ns : List ℕ) → t < m → All (λ n. n < t) ns → (p : Part) → All (λ n. n < m) (stands_for p t i ns)
+pub stands_below : (m t i : ℕ) (ns : List ℕ) → t < m → AllByRecursion (λ n. n < t) ns → (p : Part) → AllByRecursion (λ n. n < m) (stands_for p t i ns)
 stands_below m t i ns h w p =
     let u = All-weaker (λ n. n < t) (λ n. n < m) (λ n l. omega arith) ns w in go p u
   where
-    go : (p : Part) → All (λ n. n < m) ns → All (λ n. n < m) (stands_for p t i ns)
+    go : (p : Part) → AllByRecursion (λ n. n < m) ns → AllByRecursion (λ n. n < m) (stands_for p t i ns)
     go part.Whole u = (h, tt)
     go part.Picked u = All-take (λ n. n < m) 1 (drop i ns) (All-drop (λ n. n < m) i ns u)
     go part.All u = u
@@ -44,13 +44,13 @@ module _ (ts : List Term) (formed : Formed (views_of ts)) (t : ℕ) (h : t < len
   here : t < length (views_of ts)
   here = omega (arith, length-map ts term_of)
 
-  pub args_within : (ns : List ℕ) → ns ≡ (term_at (views_of ts) t).args → All (λ n. n < length ts) ns
+  pub args_within : (ns : List ℕ) → ns ≡ (term_at (views_of ts) t).args → AllByRecursion (λ n. n < length ts) ns
   args_within ns e =
-      subst (All (λ n. n < length ts)) (sym e) (All-weaker (λ n. n < t) (λ n. n < length ts) (λ n l. omega arith) (term_at (views_of ts) t).args (formed.1 t here).before)
+      subst (AllByRecursion (λ n. n < length ts)) (sym e) (All-weaker (λ n. n < t) (λ n. n < length ts) (λ n l. omega arith) (term_at (views_of ts) t).args (formed.1 t here).before)
 
-  pub stands_within : (i : ℕ) (p : Part) (args ns : List ℕ) → args ≡ (term_at (views_of ts) t).args → ns ≡ stands_for p t i args → All (λ n. n < length ts) ns
+  pub stands_within : (i : ℕ) (p : Part) (args ns : List ℕ) → args ≡ (term_at (views_of ts) t).args → ns ≡ stands_for p t i args → AllByRecursion (λ n. n < length ts) ns
   stands_within i p args ns a e =
-      subst (All (λ n. n < length ts)) (sym (e ∙ ap (stands_for p t i) a)) (stands_below (length ts) t i (term_at (views_of ts) t).args h (formed.1 t here).before p)
+      subst (AllByRecursion (λ n. n < length ts)) (sym (e ∙ ap (stands_for p t i) a)) (stands_below (length ts) t i (term_at (views_of ts) t).args h (formed.1 t here).before p)
 
 -- ---- one piece
 module _ (terms : List TermView) (t i : ℕ) (p : Piece) (args ns : List ℕ) (a : args ≡ (term_at terms t).args) (e : ns ≡ stands_for p.part t i args) where

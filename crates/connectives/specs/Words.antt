@@ -1,6 +1,6 @@
 -- The rulings of the referee of the connectives in words, and that they are what it means.
 use Rattle.std.specs.Prelude.{◌≡◌, ℕ, ◌<◌, List, [], ◌∷◌, length, Some, None, Option}
-use Rattle.std.specs.List.{ContainsAt as Has, AllByRecursion as All}
+use Rattle.std.specs.List.{ContainsAt as Has, AllByRecursion}
 use Rattle.entries.specs.declared.entry.Head.TheVariants as head
 use Rattle.entries.specs.declared.entry.Literal.{Literal}
 use Rattle.entries.specs.declared.entry.Sort.TheVariants as sort
@@ -24,7 +24,7 @@ Connects False terms t = (term_at terms t).head ≡ head.False
 Connects And terms t = (term_at terms t).head ≡ head.And
 Connects Or terms t = (term_at terms t).head ≡ head.Or
 Connects Implies terms t = (term_at terms t).head ≡ head.Implies
-Connects Equiv terms t = ((term_at terms t).head ≡ head.Equal) × All (λ n. sort_at terms n ≡ sort.Bool) (term_at terms t).args
+Connects Equiv terms t = ((term_at terms t).head ≡ head.Equal) × AllByRecursion (λ n. sort_at terms n ≡ sort.Bool) (term_at terms t).args
 
 -- Two clauses are one set: each has the literals of the other.
 pub record SameLiterals (c d : List Literal) : Type 0 where

@@ -1,6 +1,6 @@
 //! The search for T and for the argument that a step picks.
 ghost use Rattle.std.specs.Prelude.{◌≡◌, ◌<◌, true, map, length};
-ghost use Rattle.std.specs.List.{AllByRecursion as All};
+ghost use Rattle.std.specs.List.{AllByRecursion};
 ghost use Rattle.entries.specs.declared.entry.Sort.TheVariants as sort;
 ghost use Rattle.entries.specs.Equality.{same_sort};
 ghost use Rattle.entries.specs.Views.{views_of, clause_of};
@@ -41,7 +41,7 @@ fn is_bool(kind: Sort) -> bool
 
 /// Whether the terms are all Bool.
 fn all_bool(terms: &[Term], ns: &[u16]) -> bool
-    requires { All (λ n. n < length terms.now) ns.now }
+    requires { AllByRecursion (λ n. n < length terms.now) ns.now }
     ensures { result ≡ every (λ n. same_sort (sort_at (views_of terms.now) n) sort.Bool) ns.now }
 {
     for n in ns {

@@ -1,5 +1,6 @@
 //! The referee for the rules of the Boolean connectives.
 #![tactic(auto)]
+
 mod connectives;
 mod find;
 mod fit;

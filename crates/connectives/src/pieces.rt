@@ -1,6 +1,6 @@
 //! The clause that the letters of a rule stand for, compared with a clause as a set.
 ghost use Rattle.std.specs.Prelude.{◌≡◌, ◌<◌, [], ◌∷◌, length, take, drop};
-ghost use Rattle.std.specs.List.{AllByRecursion as All};
+ghost use Rattle.std.specs.List.{AllByRecursion};
 ghost use Rattle.entries.specs.Clauses.{holds_literal};
 ghost use Rattle.entries.specs.Equality.{same_literal};
 ghost use Rattle.entries.specs.Views.{views_of};
@@ -39,7 +39,7 @@ fn turned(negative: bool, l: Literal) -> Literal
 /// Whether the clause has the literal of each term, turned.
 fn has_all(terms: &[Term], ns: &[u16], negative: bool, clause: &[Literal]) -> bool
     requires formed { Formed (views_of terms.now) }
-    requires within { All (λ n. n < length terms.now) ns.now }
+    requires within { AllByRecursion (λ n. n < length terms.now) ns.now }
     ensures { result ≡ every (λ n. holds_literal clause.now (turned_by negative (literal_of (views_of terms.now) n))) ns.now }
 {
     for n in ns {
@@ -53,7 +53,7 @@ fn has_all(terms: &[Term], ns: &[u16], negative: bool, clause: &[Literal]) -> bo
 /// Whether `l` is the literal of one of the terms, turned.
 fn is_of_one(terms: &[Term], ns: &[u16], negative: bool, l: Literal) -> bool
     requires formed { Formed (views_of terms.now) }
-    requires within { All (λ n. n < length terms.now) ns.now }
+    requires within { AllByRecursion (λ n. n < length terms.now) ns.now }
     ensures { result ≡ some (λ n. same_literal (turned_by negative (literal_of (views_of terms.now) n)) l) ns.now }
 {
     for n in ns {

@@ -1,4 +1,6 @@
 //! The words that are known, and the two declarations.
+#![tactic(auto)]
+
 mod declare;
 mod fault;
 mod function;

@@ -1,7 +1,7 @@
 -- What keeps a rule of equality is entailed.
 use Rattle.std.specs.Prelude.{◌≡◌, ℕ, ◌<◌, Bool, true, false, not, List, [], ◌∷◌, map, length, ℤ, refl}
 use Rattle.std.proofs.Common.{inl, inr, sym, ap, ◌∙◌, subst, arith}
-use Rattle.std.specs.List.{ContainsAt as Has, AllByRecursion as All}
+use Rattle.std.specs.List.{ContainsAt as Has, AllByRecursion}
 use Rattle.std.proofs.ByRecursion.{all-has, has_append_left, has_push}
 use Rattle.std.proofs.lemmas.Bool.{cases_Bool, true≢false}
 use Rattle.entries.specs.declared.entry.Literal.{Literal}
@@ -57,7 +57,7 @@ module _ (ρ : Reading) (names : List NameView) (terms : List TermView) (ok : Pr
   -- the sides of an equality are terms of the list
   sides_within : (negative : Bool) (l : Literal) (s t : ℕ) → Equates terms negative l s t → Among terms l → (s < length terms) × (t < length terms)
   sides_within negative l s t w h =
-      let before = subst (All (λ m. m < l.term)) w.between (ok l.term h).before in
+      let before = subst (AllByRecursion (λ m. m < l.term)) w.between (ok l.term h).before in
       (omega (arith, before.0), omega (arith, before.1))
 
   -- terms with one head and arguments of the same values have one value
@@ -70,7 +70,7 @@ module _ (ρ : Reading) (names : List NameView) (terms : List TermView) (ok : Pr
       ∙ sym (value_at ρ names terms ok t in-t)
 
   -- ---- a clause that is one equality
-  module _ (c : List Literal) (s t : ℕ) (w : Says terms c s t) (known : All (Among terms) c) where
+  module _ (c : List Literal) (s t : ℕ) (w : Says terms c s t) (known : AllByRecursion (Among terms) c) where
     said_within : Among terms w.literal
     said_within = all-has (Among terms) c w.literal known w.has
 
@@ -83,7 +83,7 @@ module _ (ρ : Reading) (names : List NameView) (terms : List TermView) (ok : Pr
     equal_said e = has_some (literal_true ρ terms) c w.literal w.has (equal_true_of w.literal s t w.equates said_within e)
 
   -- ---- a clause whose last literal is an equality
-  module _ (c before : List Literal) (s t : ℕ) (w : Ends terms c before s t) (known : All (Among terms) c) where
+  module _ (c before : List Literal) (s t : ℕ) (w : Ends terms c before s t) (known : AllByRecursion (Among terms) c) where
     has_last : Has c w.last
     has_last = subst (λ z. Has z w.last) (sym w.written) (has_push before w.last)
 
@@ -140,7 +140,7 @@ module _ (names : List NameView) (q : Asked) (ok : Proper names q.terms) (posed 
   premise_equal : (ρ : Reading) → every (clause_true ρ q.terms) q.premises ≡ true → (c : List Literal) (s t : ℕ) → Has q.premises c → Says q.terms c s t →
       value_of ρ q.terms s ≡ value_of ρ q.terms t
   premise_equal ρ premises c s t h w =
-      said_equal ρ names q.terms ok c s t w (all-has (All (Among q.terms)) q.premises c posed.premises h) (has_every (clause_true ρ q.terms) q.premises c premises h)
+      said_equal ρ names q.terms ok c s t w (all-has (AllByRecursion (Among q.terms)) q.premises c posed.premises h) (has_every (clause_true ρ q.terms) q.premises c premises h)
 
   joined_entailed : IsJoined q → Entailed names q
   joined_entailed w ρ fits premises =

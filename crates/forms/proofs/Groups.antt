@@ -1,15 +1,15 @@
 -- The parts of a step: its clause, and the lists that may be absent.
-use Rattle.std.proofs.Common.{◌≡◌, ℕ, ◌+◌, ◌<◌, ◌≤◌, List, [], ◌∷◌, Some, None, codes, Option, sym, refl, ap, ◌∙◌, arith}
+use Rattle.std.proofs.Common.{◌≡◌, ℕ, ◌≤◌, List, [], ◌∷◌, Some, None, codes, Option, sym, refl, ap, ◌∙◌, arith}
 use Rattle.text.specs.Reading.{left}
 use Rattle.text.specs.Tokens.{Tok, opens, closes, symbol, keyword}
 use Rattle.text.specs.declared.reader.Reader.{Reader}
-use Rattle.forms.specs.Trees.{Trees, count, spells, Fits, Listed, NotListed}
+use Rattle.forms.specs.Trees.{Trees, count, spells, Fits}
 use Rattle.forms.specs.Forms.{Named, word, Group, absent, given, spell_group, FitGroup, place_of_group, Reason, spell_reason, FitReason}
-use Rattle.forms.specs.Parsed.{Justified, kept_reason, Grouped, Clause, NoClause}
+use Rattle.forms.specs.Parsed.{kept_reason, Grouped, Clause, NoClause}
 use Rattle.forms.specs.declared.item.Item.{Item}
 use Rattle.forms.specs.declared.item.Item.TheVariants.{Term, Symbol, Argument}
 use Rattle.forms.proofs.Lists.{after_list}
-use Rattle.forms.proofs.Spelling.{off, tails}
+use Rattle.forms.proofs.Spelling.{off}
 
 -- a clause that is read, or none
 pub clause_follows : (tokens : List Tok) (at : ℕ) (rest : List Tok) → Clause tokens at rest → (a c : ℕ) (ts : Trees) (r : ℕ) (others : List Tok) → tokens ≡ opens a ∷ symbol c (codes "cl") ∷ spells ts (closes r ∷ others) → rest ≡ others

@@ -1,13 +1,13 @@
 -- A command's first word says which form it has.
-use Rattle.std.proofs.Common.{◌≡◌, ℕ, Bool, true, false, cond, List, [], ◌∷◌, Some, None, codes, Option, sym, refl, ap, ◌∙◌, arith, MatchOption}
+use Rattle.std.proofs.Common.{◌≡◌, ℕ, Bool, true, false, cond, List, ◌∷◌, Some, None, codes, Option, sym, refl, ap, ◌∙◌}
 use Rattle.std.specs.Str.{bytes_eq}
-use Rattle.text.specs.Tokens.{Tok, opens, closes, symbol}
+use Rattle.text.specs.Tokens.{Tok, opens, symbol}
 use Rattle.forms.specs.Forms.{SetLogic, DeclareSort, DeclareFun, Assert, Problem, set_logic, declare_sort, declare_fun, assert, spell_set_logic, spell_declare_sort, spell_declare_fun, spell_assert, spell_problem, FitDeclareFun, FitAssert, FitProblem}
 use Rattle.forms.specs.Forms.{Assume, Step, Anchor, Proof, assume, step, anchor, spell_assume, spell_step, spell_anchor, spell_proof, FitAssume, FitStep, FitProof}
-use Rattle.forms.specs.Parsed.{Entry, kept_set_logic, kept_declare_sort, kept_declare_fun, kept_assert, kept_problem, seen_problem, Move, kept_assume, kept_step, kept_anchor, kept_proof, seen_proof, Parses}
+use Rattle.forms.specs.Parsed.{kept_set_logic, kept_declare_sort, kept_declare_fun, kept_assert, kept_problem, seen_problem, kept_assume, kept_step, kept_anchor, kept_proof, seen_proof, Parses}
 use Rattle.forms.specs.declared.form.ProblemForm.{ProblemForm}
 use Rattle.forms.specs.declared.form.ProofForm.{ProofForm}
-use Rattle.forms.proofs.Spelling.{off, tails}
+use Rattle.forms.proofs.Spelling.{off}
 
 -- two words that differ, by a computed test
 pub differ : {X : Type 0} (u v : List ℕ) → bytes_eq u u ≡ true → bytes_eq v u ≡ false → u ≡ v → X

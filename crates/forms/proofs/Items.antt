@@ -1,15 +1,14 @@
 -- Items of a list, read from the left.
-use Rattle.std.proofs.Common.{◌≡◌, ℕ, ◌+◌, ◌<◌, ◌≤◌, List, [], ◌∷◌, Some, None, codes, Option, sym, refl, ap, ◌∙◌, arith, Bor, MatchOption}
-use Rattle.text.specs.Tokens.{Tok, opens, closes, symbol, numeral, keyword}
+use Rattle.std.proofs.Common.{◌≡◌, ℕ, ◌≤◌, List, ◌∷◌, Some, None, codes, Option, sym, refl, ap, ◌∙◌, Bor, MatchOption}
+use Rattle.text.specs.Tokens.{Tok, opens, closes, symbol, numeral}
 use Rattle.text.specs.Tokens.{seen}
 use Rattle.text.specs.declared.token.Token.{Token}
 use Rattle.text.specs.declared.token.Token.TheVariants as token
 use Rattle.text.specs.Reading.{left}
 use Rattle.text.specs.declared.reader.Reader.{Reader}
-use Rattle.forms.specs.Trees.{Tree, name, number, call, Trees, none, more, count, spell, spells, OneNumeral, Fit, Fits, First, NoneFirst, Listed, NotListed}
-use Rattle.forms.specs.declared.item.Item.{Item}
+use Rattle.forms.specs.Trees.{Tree, name, number, call, Trees, none, more, count, spell, spells, Fit, Fits, First, NoneFirst, Listed, NotListed}
 use Rattle.forms.specs.declared.item.Item.TheVariants.{Term, Symbol, Argument}
-use Rattle.forms.proofs.Spelling.{off, tails, not_close, not_keyword, same_tree}
+use Rattle.forms.proofs.Spelling.{off, tails, not_close, not_keyword}
 
 -- what follows the opening bracket of a negative argument
 pub record Signed (after rest : List Tok) : Type 0 where

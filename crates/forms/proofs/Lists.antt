@@ -1,6 +1,6 @@
 -- A list of items that is read from the left.
-use Rattle.std.proofs.Common.{◌≡◌, ℕ, ◌+◌, ◌<◌, ◌≤◌, List, [], ◌∷◌, length, sym, refl, ap, ◌∙◌, subst, arith}
-use Rattle.text.specs.Tokens.{Tok, opens, closes, symbol, numeral, keyword, fault, seen, place}
+use Rattle.std.proofs.Common.{◌≡◌, ℕ, ◌+◌, ◌<◌, ◌≤◌, List, ◌∷◌, length, sym, refl, ap, ◌∙◌, subst, arith}
+use Rattle.text.specs.Tokens.{Tok, opens, closes, symbol, numeral, seen, place}
 use Rattle.text.specs.declared.token.Token.{Token}
 use Rattle.text.specs.declared.token.Token.TheVariants as token
 use Rattle.forms.specs.Takes.{NoToken}

@@ -1,7 +1,7 @@
 -- What a tree spells shows the tree and what follows it.
-use Rattle.std.proofs.Common.{◌≡◌, ℕ, ◌+◌, ◌<◌, ◌≤◌, List, [], ◌∷◌, codes, sym, refl, ap, ◌∙◌, arith}
-use Rattle.text.specs.Tokens.{Tok, opens, closes, symbol, numeral, keyword}
-use Rattle.forms.specs.Trees.{Tree, name, number, call, Trees, none, more, count, spell, spells}
+use Rattle.std.proofs.Common.{◌≡◌, ℕ, List, ◌∷◌, sym, refl, arith}
+use Rattle.text.specs.Tokens.{Tok, closes, keyword}
+use Rattle.forms.specs.Trees.{Tree, name, number, call, Trees, none, more, spell, spells}
 
 -- two constructors are never equal: `cc` then shows this
 pub off : {X : Type 0} → ◌≡◌ {A = ℕ} 0 1 → X

@@ -1,14 +1,13 @@
 -- What a command spells shows the command.
-use Rattle.std.proofs.Common.{◌≡◌, ℕ, List, [], ◌∷◌, codes, sym, refl, ap, ◌∙◌}
-use Rattle.text.specs.Tokens.{Tok, opens, closes, symbol, keyword}
-use Rattle.forms.specs.Trees.{Tree, Trees, spell, spells}
-use Rattle.forms.specs.Forms.{Named, Group, absent, given, spell_group, Reason, spell_reason}
+use Rattle.std.proofs.Common.{◌≡◌, ℕ, List, [], ◌∷◌, codes, sym, refl}
+use Rattle.text.specs.Tokens.{Tok, closes, symbol}
+use Rattle.forms.specs.Forms.{Group, absent, given, spell_group, Reason, spell_reason}
 use Rattle.forms.specs.Forms.{SetLogic, DeclareSort, DeclareFun, Assert, Problem, set_logic, declare_sort, declare_fun, assert, spell_set_logic, spell_declare_sort, spell_declare_fun, spell_assert, spell_problem}
 use Rattle.forms.specs.Forms.{Assume, Step, Anchor, Proof, assume, step, anchor, spell_assume, spell_step, spell_anchor, spell_proof}
 use Rattle.forms.specs.Layer.{Unambiguous}
 use Rattle.forms.proofs.Groups.{NotKey, not_premises, not_args}
 use Rattle.forms.proofs.Heads.{differ, heads, bodies}
-use Rattle.forms.proofs.Spelling.{off, same_tree, same_trees}
+use Rattle.forms.proofs.Spelling.{same_tree, same_trees}
 
 one_set_logic : (c d : SetLogic) → spell_set_logic c ≡ spell_set_logic d → c ≡ d
 one_set_logic c d e =

@@ -1,5 +1,5 @@
 -- The forms of commands: their trees, and the tokens that spell them.
-use Rattle.std.specs.Prelude.{◌≡◌, ℕ, ◌≤◌, List, [], ◌∷◌, Some, None, codes, Option}
+use Rattle.std.specs.Prelude.{ℕ, ◌≤◌, List, [], ◌∷◌, Some, None, codes, Option}
 use Rattle.text.specs.Tokens.{Tok, opens, closes, symbol, keyword, numeral}
 use Rattle.forms.specs.Trees.{Tree, Trees, count, spell, spells, Fit, Fits}
 use Rattle.forms.specs.declared.item.Item.{Item}

@@ -1,5 +1,5 @@
 -- Terms as trees with the places of their tokens, and the tokens that spell them.
-use Rattle.std.specs.Prelude.{◌≡◌, ℕ, ◌+◌, ◌<◌, ◌≤◌, List, [], ◌∷◌, codes, ◌≢◌}
+use Rattle.std.specs.Prelude.{◌≡◌, ℕ, ◌+◌, ◌≤◌, List, ◌∷◌, codes, ◌≢◌}
 use Rattle.text.specs.Tokens.{Tok, opens, closes, symbol, numeral}
 use Rattle.forms.specs.declared.item.Item.{Item}
 use Rattle.forms.specs.declared.item.Item.TheVariants.{Term, Symbol, Argument}

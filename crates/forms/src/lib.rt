@@ -1,4 +1,6 @@
 //! The form layer: the grammar of commands.
+#![tactic(auto)]
+
 mod depth;
 mod fault;
 mod form;

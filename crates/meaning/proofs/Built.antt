@@ -1,12 +1,12 @@
 -- What a fold from the left gives each entry.
 use Rattle.std.proofs.Common.{◌≡◌, ℕ, ◌+◌, ◌<◌, List, [], ◌∷◌, ◌++◌, map, length, get_or, take, drop, fold, sym, refl, ap, ◌∙◌, arith}
-use Rattle.std.specs.List.{AllByRecursion as All}
+use Rattle.std.specs.List.{AllByRecursion}
 use Rattle.std.proofs.lemmas.List.{length_push, length-take-le, get_or_append_left, get_or_push, take-append-drop, drop_more}
 use Rattle.entries.specs.Views.{TermView}
 use Rattle.meaning.specs.Proper.{no_term, term_at}
 use Rattle.meaning.specs.Values.{next, built}
 
-pub map_same : {X : Type 0} (f g : ℕ → X) (P : ℕ → Type 0) → ((n : ℕ) → P n → f n ≡ g n) → (ns : List ℕ) → All P ns → map f ns ≡ map g ns
+pub map_same : {X : Type 0} (f g : ℕ → X) (P : ℕ → Type 0) → ((n : ℕ) → P n → f n ≡ g n) → (ns : List ℕ) → AllByRecursion P ns → map f ns ≡ map g ns
 map_same f g P e [] w = refl
 map_same f g P e (n ∷ ns) w = let p = e n w.0 in let q = map_same f g P e ns w.1 in cc
 
@@ -36,7 +36,7 @@ module _ {X : Type 0} (none : X) (f : ℕ → TermView → List X → X) where
       ap (λ xs. get_or xs i none) (split ts us []) ∙ kept us (built none f ts) i none (omega (arith, built_long ts))
 
   -- each entry gets what `f` makes of what its arguments get
-  pub built_at : (ts : List TermView) (i : ℕ) → i < length ts → All (λ n. n < i) (term_at ts i).args →
+  pub built_at : (ts : List TermView) (i : ℕ) → i < length ts → AllByRecursion (λ n. n < i) (term_at ts i).args →
       get_or (built none f ts) i none ≡ f i (term_at ts i) (map (λ n. get_or (built none f ts) n none) (term_at ts i).args)
   built_at ts i h w =
       let front = take i ts in

@@ -1,6 +1,6 @@
 -- Clauses without repeats: how long they are, and where they are true.
 use Rattle.std.proofs.Common.{◌≡◌, ℕ, zero, suc, ◌+◌, ◌<◌, ◌≤◌, Bool, true, false, ◌||◌, List, [], ◌∷◌, ◌++◌, map, length, get_or, take, fold, sym, refl, ap, ◌∙◌, subst, inl, inr, ⊎_elim, arith}
-use Rattle.std.specs.List.{AllByRecursion as All}
+use Rattle.std.specs.List.{AllByRecursion}
 use Rattle.std.proofs.ByRecursion.{All-map, All-push, All-weaker}
 use Rattle.std.proofs.lemmas.List.{length-map, length_push, get_or_append_left, get_or_push, get_or_default, take_more, take_all, map_push}
 use Rattle.std.proofs.lemmas.Bool.{cases_Bool, cond-true, cond-false, or_left, or_right, cases_lt, false≢true}
@@ -35,7 +35,7 @@ some_at p (x ∷ xs) zero d h e = or_left (p x) (some p xs) e
 some_at p (x ∷ xs) (suc k) d h e = or_right (p x) (some p xs) (some_at p xs k d (omega arith) e)
 
 -- what tests alike on each element is alike on the list
-pub some_same : {X : Type 0} (p q : X → Bool) (P : X → Type 0) → ((x : X) → P x → p x ≡ q x) → (xs : List X) → All P xs → some p xs ≡ some q xs
+pub some_same : {X : Type 0} (p q : X → Bool) (P : X → Type 0) → ((x : X) → P x → p x ≡ q x) → (xs : List X) → AllByRecursion P xs → some p xs ≡ some q xs
 some_same p q P e [] w = refl
 some_same p q P e (x ∷ xs) w = ap (λ b. b || some p xs) (e x w.0) ∙ ap (λ b. q x || b) (some_same p q P e xs w.1)
 
@@ -62,14 +62,14 @@ pub some_clause : (p : Literal → Bool) (ls : List Literal) → some p (clause_
 some_clause p ls = some_from p ls []
 
 -- the clause of written terms is true exactly where one of them is
-pub clause_true_lem : (ρ : Reading) (names : List NameView) (terms : List TermView) → Proper names terms → (ns : List ℕ) → All (λ n. n < length terms) ns →
+pub clause_true_lem : (ρ : Reading) (names : List NameView) (terms : List TermView) → Proper names terms → (ns : List ℕ) → AllByRecursion (λ n. n < length terms) ns →
     clause_true ρ terms (clause_from (map (literal_of terms) ns)) ≡ some (is_true ρ terms) ns
 clause_true_lem ρ names terms ok ns w =
     some_clause (literal_true ρ terms) (map (literal_of terms) ns) ∙ some_map (literal_of terms) (literal_true ρ terms) ns
     ∙ some_same (λ n. literal_true ρ terms (literal_of terms n)) (is_true ρ terms) (λ n. n < length terms) (literal_true_lem ρ names terms ok) ns w
 
 -- more terms change no clause's truth
-pub clause_true_kept : (ρ : Reading) (terms more : List TermView) (c : List Literal) → All (λ (l : Literal). l.term < length terms) c →
+pub clause_true_kept : (ρ : Reading) (terms more : List TermView) (c : List Literal) → AllByRecursion (λ (l : Literal). l.term < length terms) c →
     clause_true ρ (terms ++ more) c ≡ clause_true ρ terms c
 clause_true_kept ρ terms more c w =
     some_same (literal_true ρ (terms ++ more)) (literal_true ρ terms) (λ (l : Literal). l.term < length terms) (literal_true_kept ρ terms more) c w
@@ -81,17 +81,17 @@ length_with c l = elim (cases_Bool (holds_literal c l)) [
   | inr e ↦ omega (arith, ap length (cond-false (holds_literal c l) c (c ++ l ∷ []) e), length_push c l)
 ]
 
-pub all_with : (P : Literal → Type 0) (c : List Literal) (l : Literal) → All P c → P l → All P (withOne c l)
+pub all_with : (P : Literal → Type 0) (c : List Literal) (l : Literal) → AllByRecursion P c → P l → AllByRecursion P (withOne c l)
 all_with P c l w h = elim (cases_Bool (holds_literal c l)) [
-  | inl e ↦ subst (All P) (sym (cond-true (holds_literal c l) c (c ++ l ∷ []) e)) w
-  | inr e ↦ subst (All P) (sym (cond-false (holds_literal c l) c (c ++ l ∷ []) e)) (All-push P c l w h)
+  | inl e ↦ subst (AllByRecursion P) (sym (cond-true (holds_literal c l) c (c ++ l ∷ []) e)) w
+  | inr e ↦ subst (AllByRecursion P) (sym (cond-false (holds_literal c l) c (c ++ l ∷ []) e)) (All-push P c l w h)
 ]
 
-all_from : (P : Literal → Type 0) (ls c : List Literal) → All P c → All P ls → All P (fold withOne c ls)
+all_from : (P : Literal → Type 0) (ls c : List Literal) → AllByRecursion P c → AllByRecursion P ls → AllByRecursion P (fold withOne c ls)
 all_from P [] c w v = w
 all_from P (l ∷ ls) c w v = all_from P ls (withOne c l) (all_with P c l w v.0) v.1
 
-pub all_clause : (P : Literal → Type 0) (ls : List Literal) → All P ls → All P (clause_from ls)
+pub all_clause : (P : Literal → Type 0) (ls : List Literal) → AllByRecursion P ls → AllByRecursion P (clause_from ls)
 all_clause P ls v = all_from P ls [] tt v
 
 folded_push : (ls : List Literal) (l : Literal) (c : List Literal) → fold withOne c (ls ++ l ∷ []) ≡ withOne (fold withOne c ls) l
@@ -112,19 +112,19 @@ module _ (f : ℕ → Literal) (ns : List ℕ) where
   pub written_all : (i : ℕ) → length ns ≤ i → (c : List Literal) → c ≡ clause_from (map f (take i ns)) → c ≡ clause_from (map f ns)
   written_all i le c e = e ∙ ap (λ z. clause_from (map f z)) (take_all i ns le)
 
-pub clause_truth_of : (ts : List Term) (ns : List ℕ) (c : List Literal) → Formed (map term_of ts) → All (λ n. n < length ts) ns → c ≡ clause_from (map (literal_of (map term_of ts)) ns) → (ρ : Reading) →
+pub clause_truth_of : (ts : List Term) (ns : List ℕ) (c : List Literal) → Formed (map term_of ts) → AllByRecursion (λ n. n < length ts) ns → c ≡ clause_from (map (literal_of (map term_of ts)) ns) → (ρ : Reading) →
     clause_true ρ (map term_of ts) c ≡ some (is_true ρ (map term_of ts)) ns
 clause_truth_of ts ns c formed w e ρ =
     let l = length-map ts term_of in
     ap (clause_true ρ (map term_of ts)) e
     ∙ clause_true_lem ρ formed.0 (map term_of ts) formed.1 ns (All-weaker (λ n. n < length ts) (λ n. n < length (map term_of ts)) (λ n h. omega arith) ns w)
 
-pub clause_within : (ts : List Term) (ns : List ℕ) (c : List Literal) → Formed (map term_of ts) → All (λ n. n < length ts) ns → c ≡ clause_from (map (literal_of (map term_of ts)) ns) →
-    All (λ (l : Literal). l.term < length ts) c
+pub clause_within : (ts : List Term) (ns : List ℕ) (c : List Literal) → Formed (map term_of ts) → AllByRecursion (λ n. n < length ts) ns → c ≡ clause_from (map (literal_of (map term_of ts)) ns) →
+    AllByRecursion (λ (l : Literal). l.term < length ts) c
 clause_within ts ns c formed w e =
     let k = length-map ts term_of in
     let f = literal_of (map term_of ts) in
-    subst (All (λ (l : Literal). l.term < length ts)) (sym e)
+    subst (AllByRecursion (λ (l : Literal). l.term < length ts)) (sym e)
     (all_clause (λ (l : Literal). l.term < length ts) (map f ns)
     (All-map (λ (l : Literal). l.term < length ts) f ns
     (All-weaker (λ n. n < length ts) (λ n. (f n).term < length ts) (λ n h. omega (arith, literal_within formed.0 (map term_of ts) formed.1 n (omega arith))) ns w)))

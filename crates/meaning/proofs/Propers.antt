@@ -1,6 +1,6 @@
 -- A proper list stays proper: one more term, more declared names.
 use Rattle.std.proofs.Common.{◌≡◌, ℕ, ◌<◌, ◌≤◌, true, cond, ◌&&◌, ◌||◌, ltb, List, [], ◌∷◌, ◌++◌, map, length, sym, refl, ap, ◌∙◌, subst, inl, inr, ⊎_elim, arith}
-use Rattle.std.specs.List.{AllByRecursion as All}
+use Rattle.std.specs.List.{AllByRecursion}
 use Rattle.std.proofs.ByRecursion.{All-weaker}
 use Rattle.std.proofs.lemmas.List.{length-append, length_push, get_or_append_left, get_or_push}
 use Rattle.std.proofs.lemmas.Bool.{and_parts, and_from, cases_lt, lt-ltb, ltb-true}
@@ -22,14 +22,14 @@ module _ (terms more : List TermView) where
   pub term_at_kept : (n : ℕ) → n < length terms → term_at (terms ++ more) n ≡ term_at terms n
   term_at_kept n h = get_or_append_left terms more no_term n h
 
-  pub sorts_kept : (ns : List ℕ) → All (λ n. n < length terms) ns → map (sort_at (terms ++ more)) ns ≡ map (sort_at terms) ns
+  pub sorts_kept : (ns : List ℕ) → AllByRecursion (λ n. n < length terms) ns → map (sort_at (terms ++ more)) ns ≡ map (sort_at terms) ns
   sorts_kept ns w =
       map_same (sort_at (terms ++ more)) (sort_at terms) (λ n. n < length terms) (λ n h. ap (λ (t : TermView). t.sort) (term_at_kept n h)) ns w
 
   numeral_kept : (n : ℕ) → n < length terms → is_numeral (terms ++ more) n ≡ is_numeral terms n
   numeral_kept n h = ap (λ (t : TermView). same_kind t.head (head.Numeral 0)) (term_at_kept n h)
 
-  one_kept : (ns : List ℕ) → All (λ n. n < length terms) ns → one_numeral (terms ++ more) ns ≡ one_numeral terms ns
+  one_kept : (ns : List ℕ) → AllByRecursion (λ n. n < length terms) ns → one_numeral (terms ++ more) ns ≡ one_numeral terms ns
   one_kept [] w = refl
   one_kept (n ∷ []) w = numeral_kept n w.0
   one_kept (n ∷ m ∷ ns) w = refl
@@ -43,11 +43,11 @@ module _ (terms more : List TermView) where
         ∙ ap (λ b. b || (same_kind t.head head.Minus && one_numeral (terms ++ more) t.args)) (numeral_kept n h)
         ∙ ap (λ b. is_numeral terms n || (same_kind t.head head.Minus && b)) (one_kept t.args w)
 
-    first_kept : (ns : List ℕ) → All (λ n. n < length terms) ns → factor_first (terms ++ more) ns ≡ factor_first terms ns
+    first_kept : (ns : List ℕ) → AllByRecursion (λ n. n < length terms) ns → factor_first (terms ++ more) ns ≡ factor_first terms ns
     first_kept [] w = refl
     first_kept (n ∷ ns) w = factor_kept n w.0
 
-    pub formed_kept : (h : Head) (ns : List ℕ) → All (λ n. n < length terms) ns → well_formed names (terms ++ more) h ns ≡ well_formed names terms h ns
+    pub formed_kept : (h : Head) (ns : List ℕ) → AllByRecursion (λ n. n < length terms) ns → well_formed names (terms ++ more) h ns ≡ well_formed names terms h ns
     formed_kept h ns w =
         ap (λ ss. takes_sorts names h ss && scales (terms ++ more) h ns) (sorts_kept ns w)
         ∙ ap (λ b. takes_sorts names h (map (sort_at terms) ns) && cond (same_kind h head.Times) b true) (first_kept ns w)

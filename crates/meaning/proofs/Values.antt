@@ -1,7 +1,7 @@
 -- What the values of a proper list are.
 use Rattle.std.proofs.Common.{◌≡◌, ℕ, ◌<◌, Bool, true, false, not, ◌&&◌, ◌||◌, ltb, List, [], ◌∷◌, map, length, ℤ, pos, negsuc, Decides, sym, refl, ap, ◌∙◌, subst, inl, inr, arith}
 use lib.Signed.{le_z, lt_z}
-use Rattle.std.specs.List.{AllByRecursion as All}
+use Rattle.std.specs.List.{AllByRecursion}
 use Rattle.std.proofs.lemmas.List.{length-map}
 use Rattle.std.proofs.lemmas.Bool.{and_parts, eqb-true, eq-eqb, ltb-true, false≢true}
 use Rattle.entries.specs.declared.entry.Sort.{Sort}
@@ -121,7 +121,7 @@ module _ (names : List NameView) (terms : List TermView) (ok : Proper names term
   pub not_args : (term_at terms n).head ≡ head.Not → (a : ℕ) × ((term_at terms n).args ≡ a ∷ []) × (a < n)
   not_args e =
       let one = one_from_map (sort_at terms) (term_at terms n).args sort.Bool ((same_sorts_decides _ (sort.Bool ∷ [])).0 (takes_by head.Not e)) in
-      (one.0, one.1, (subst (All (λ m. m < n)) one.1 (ok n h).before).0)
+      (one.0, one.1, (subst (AllByRecursion (λ m. m < n)) one.1 (ok n h).before).0)
 
   -- the two arguments of an operator that takes these two sorts
   pub two_args : (k : Head) (x y : Sort) → ((ss : List Sort) → takes_sorts names k ss ≡ same_sorts ss (x ∷ y ∷ [])) → (term_at terms n).head ≡ k →

@@ -1,6 +1,6 @@
 -- When a list of terms is proper: order, counts and sorts.
 use Rattle.std.specs.Prelude.{◌≡◌, ℕ, ◌<◌, ◌≤◌, Bool, true, false, cond, ◌&&◌, ◌||◌, List, [], ◌∷◌, map, length, slice_index_or}
-use Rattle.std.specs.List.{AllByRecursion as All}
+use Rattle.std.specs.List.{AllByRecursion}
 use Rattle.entries.specs.declared.entry.Head.{Head}
 use Rattle.entries.specs.declared.entry.Head.TheVariants as head
 use Rattle.entries.specs.declared.entry.Sort.{Sort}
@@ -46,7 +46,7 @@ well_formed names terms h args = takes_sorts names h (map (sort_at terms) args) 
 
 -- The term t may stand at the place i of a list: its arguments stand before it and make a term with its head, whose sort it has.
 pub record ProperAt (names : List NameView) (terms : List TermView) (i : ℕ) (t : TermView) : Type 0 where
-  pub before : All (λ n. n < i) t.args
+  pub before : AllByRecursion (λ n. n < i) t.args
   pub few : length t.args ≤ 64
   pub formed : well_formed names terms t.head t.args ≡ true
   pub given : t.sort ≡ gives_sort names t.head

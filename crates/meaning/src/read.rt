@@ -1,6 +1,6 @@
 //! What a list of terms says: a term by its number, the literal of a term, the clause of written terms.
 ghost use Rattle.std.specs.Prelude.{◌≡◌, ◌<◌, ◌≤◌, map, length};
-ghost use Rattle.std.specs.List.{AllByRecursion as All};
+ghost use Rattle.std.specs.List.{AllByRecursion};
 ghost use Rattle.entries.specs.declared.entry.Head.TheVariants as head;
 ghost use Rattle.entries.specs.Clauses.{clause_from};
 ghost use Rattle.entries.specs.Equality.{same_kind};
@@ -50,10 +50,10 @@ pub fn literal_of(terms: &[Term], n: u16) -> Literal
 /// dropped. It is true exactly where one of the terms is.
 pub fn clause_of(terms: &[Term], written: &[u16]) -> Clause
     requires formed { Formed (views_of terms.now) }
-    requires within { All (λ n. n < length terms.now) written.now }
+    requires within { AllByRecursion (λ n. n < length terms.now) written.now }
     requires few { length written.now ≤ 64 }
     ensures literals { clause_of result ≡ clause_from (map (literal_of (views_of terms.now)) written.now) }
-    ensures within { All (λ (l : Literal). l.term < length terms.now) (clause_of result) }
+    ensures within { AllByRecursion (λ (l : Literal). l.term < length terms.now) (clause_of result) }
     ensures truth { ClauseMeans (views_of terms.now) (clause_of result) written.now }
 {
     let mut clause = Clause::new();

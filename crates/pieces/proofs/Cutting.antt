@@ -1,6 +1,6 @@
 -- Each piece has its shape.
-use Rattle.std.proofs.Common.{◌≡◌, ℕ, zero, suc, ◌+◌, ◌-◌, ◌<◌, ◌≤◌, Bool, true, false, cond, ◌⊎◌, List, [], ◌∷◌, length, get_or, take, drop, sym, refl, ap, ◌∙◌, inl, inr, ⊎_elim, one-add, arith, length-drop, length-take-le}
-use Rattle.std.specs.List.{prefix_len, AllByRecursion as All}
+use Rattle.std.proofs.Common.{◌≡◌, ℕ, zero, suc, ◌+◌, ◌-◌, ◌<◌, ◌≤◌, Bool, true, false, List, [], ◌∷◌, length, get_or, take, drop, refl, ap, ◌∙◌, inl, inr, ⊎_elim, one-add, arith, length-drop, length-take-le}
+use Rattle.std.specs.List.{prefix_len, AllByRecursion}
 use Rattle.std.proofs.lemmas.List.Sums.{prefix_len-le-length, sum_by-cons}
 use Rattle.std.proofs.lemmas.Bool.{cond_both}
 use Rattle.std.proofs.lemmas.Bool.Decides.{nat_tests}
@@ -9,18 +9,18 @@ use Rattle.text.specs.Parts.{Part, parts, parts_from}
 use Rattle.text.specs.declared.bytes.Kind.{Kind}
 use Rattle.text.specs.declared.bytes.Kind.TheVariants.{Blank, Comment, Open, Close, Colon, Digit, Initial, Other}
 use Rattle.text.proofs.Cuts.{few_parts}
-use Rattle.text.proofs.Laying.{byte_at, rest_at, byte_after, laid}
+use Rattle.text.proofs.Laying.{rest_at, byte_after, laid}
 use Rattle.pieces.specs.Pieces.{is_bare, enclosed, reaches, piece, pieces}
 use Rattle.pieces.specs.Cutting.{size}
-use Rattle.pieces.specs.Laws.{Bracketed, Word, Shape, bracketed, stray, word, Cut}
+use Rattle.pieces.specs.Laws.{Shape, bracketed, stray, word, Cut}
 use Rattle.pieces.proofs.Closing.{enclosed_le, bounded}
 use Rattle.pieces.proofs.Balance.{none_shorter, whole_or_rest}
 
 -- a longest run passes, and what stands after it does not
-run_passes : (p : ℕ → Bool) (xs : List ℕ) → All (λ x. p x ≡ true) (take (prefix_len p xs) xs)
+run_passes : (p : ℕ → Bool) (xs : List ℕ) → AllByRecursion (λ x. p x ≡ true) (take (prefix_len p xs) xs)
 run_passes p [] = tt
 run_passes p (x ∷ xs) =
-    cond_both (p x) (1 + prefix_len p xs) 0 (λ n. All (λ y. p y ≡ true) (take n (x ∷ xs))) (λ e. rw one-add (e, run_passes p xs)) (λ _. tt)
+    cond_both (p x) (1 + prefix_len p xs) 0 (λ n. AllByRecursion (λ y. p y ≡ true) (take n (x ∷ xs))) (λ e. rw one-add (e, run_passes p xs)) (λ _. tt)
 
 run_stops : (p : ℕ → Bool) (xs : List ℕ) → prefix_len p xs < length xs → p (get_or xs (prefix_len p xs) 0) ≡ false
 run_stops p [] lt = absurd (omega arith)
@@ -62,14 +62,14 @@ module _ (text : List ℕ) (at b : ℕ) (bs : List ℕ) (here : drop at text ≡
   shape Other is solid plain = word_shape (grind (arith, nat_tests))
 
 module _ (text : List ℕ) where
-  shapes_from : (past at : ℕ) (bs : List ℕ) → drop at text ≡ bs → All (Shape text) (parts piece past at bs)
+  shapes_from : (past at : ℕ) (bs : List ℕ) → drop at text ≡ bs → AllByRecursion (Shape text) (parts piece past at bs)
   unfolding parts
   shapes_from past at [] here = tt
   shapes_from (suc past) at (b ∷ bs) here = shapes_from past (at + 1) bs (rest_at text at b bs here)
   shapes_from zero at (b ∷ bs) here =
       let rest = rest_at text at b bs here in
-      cond_both (is_blank b) _ _ (All (Shape text)) (λ _. shapes_from zero (at + 1) bs rest)
-      (λ solid. cond_both (is_semicolon b) _ _ (All (Shape text)) (λ _. shapes_from (prefix_len in_line bs) (at + 1) bs rest)
+      cond_both (is_blank b) _ _ (AllByRecursion (Shape text)) (λ _. shapes_from zero (at + 1) bs rest)
+      (λ solid. cond_both (is_semicolon b) _ _ (AllByRecursion (Shape text)) (λ _. shapes_from (prefix_len in_line bs) (at + 1) bs rest)
       (λ plain. (shape text at b bs here (kind b) refl solid plain, shapes_from (piece b bs) (at + 1) bs rest)))
 
 pub cut : (text : List ℕ) → Cut text

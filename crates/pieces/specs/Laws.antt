@@ -1,6 +1,6 @@
 -- What holds of the pieces of every text, seen from outside: a law beside the definition.
-use Rattle.std.specs.Prelude.{◌≡◌, ℕ, ◌+◌, ◌<◌, ◌≤◌, Bool, true, false, cond, ◌⊎◌, List, [], ◌∷◌, length, take, count_by, nat_eq, slice_index, slice_index_or}
-use Rattle.std.specs.List.{AllByRecursion as All}
+use Rattle.std.specs.Prelude.{◌≡◌, ℕ, ◌<◌, Bool, true, false, cond, ◌⊎◌, List, [], ◌∷◌, length, take, count_by, nat_eq, slice_index, slice_index_or}
+use Rattle.std.specs.List.{AllByRecursion}
 use Rattle.text.specs.Bytes.{is_semicolon, in_line}
 use Rattle.text.specs.Parts.{Part}
 use Rattle.text.specs.Layout.{end_of, Laid}
@@ -32,7 +32,7 @@ pub record Bracketed (text : List ℕ) (p : Part) : Type 0 where
 -- A bare word is a longest run of bytes that are neither blank, bracket nor semicolon.
 pub record Word (text : List ℕ) (p : Part) : Type 0 where
   pub some : 0 < length p.bytes
-  pub run : All (λ b. is_bare b ≡ true) p.bytes
+  pub run : AllByRecursion (λ b. is_bare b ≡ true) p.bytes
   pub longest : end_of p < length text → is_bare (slice_index text (end_of p)) ≡ false
 
 -- What a piece is.
@@ -44,4 +44,4 @@ pub data Shape (text : List ℕ) (p : Part) : Type 0 where
 -- The law of cutting: a text is laid out by its pieces, and between them is nothing but blanks and comments.
 pub record Cut (text : List ℕ) : Type 0 where
   pub laid : Laid text 0 (pieces text)
-  pub each : All (Shape text) (pieces text)
+  pub each : AllByRecursion (Shape text) (pieces text)

@@ -1,4 +1,6 @@
 //! Cutting a file into commands, and the lines and columns of its bytes.
+#![tactic(auto)]
+
 mod cutter;
 mod even;
 mod lines;

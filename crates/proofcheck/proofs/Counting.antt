@@ -1,9 +1,8 @@
 -- A report as outcome after outcome is added to it.
-use Rattle.std.proofs.Common.{◌≡◌, ℕ, ◌+◌, ◌<◌, ◌≤◌, Bool, true, false, cond, eqb, ◌⊎◌, List, [], ◌∷◌, length, get_or, set, sum_by, count_by, sym, refl, ap, ◌∙◌, subst, inl, inr, arith, lit<, get_or-set_other, get_or-set_same}
+use Rattle.std.proofs.Common.{◌≡◌, ℕ, ◌+◌, ◌<◌, ◌≤◌, Bool, true, false, cond, eqb, ◌⊎◌, List, [], ◌∷◌, length, get_or, set, sum_by, count_by, sym, ap, ◌∙◌, subst, inl, inr, arith, lit<, get_or-set_other, get_or-set_same}
 use Rattle.std.proofs.lemmas.List.Sums.{sum_by-cons}
 use Rattle.std.proofs.lemmas.Bool.{cases_Bool, eqb-true, eqb-false}
 use Rattle.text.specs.Parts.{Part as Piece}
-use Rattle.text.specs.Tokens.{tokens}
 use Rattle.text.proofs.Lexing.{few_tokens}
 use Rattle.pieces.specs.Cutting.{size}
 use Rattle.commands.specs.Outcomes.{Comes, kind_of, number, command_count, token_count}

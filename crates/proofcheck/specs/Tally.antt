@@ -1,5 +1,5 @@
 -- What the layers make of the commands of a file, counted.
-use Rattle.std.specs.Prelude.{◌≡◌, ℕ, Bool, List, [], ◌∷◌, sum_by, count_by, ◌==◌, slice_index}
+use Rattle.std.specs.Prelude.{◌≡◌, Bool, List, [], ◌∷◌, sum_by, count_by, ◌==◌, slice_index}
 use Rattle.text.specs.Parts.{Part as Piece}
 use Rattle.commands.specs.Outcomes.{Comes, kind_of, number, command_count, token_count}
 use Rattle.commands.specs.declared.kind.Kind.{Kind}

@@ -1,4 +1,6 @@
 //! `proofcheck PROBLEM PROOF`: reads a problem and its proof, and says which commands are well formed.
+#![tactic(auto)]
+
 mod failure;
 mod file;
 mod report;

@@ -1,6 +1,6 @@
 -- The terms that worked cases are about are proper, by one computed test.
-use Rattle.std.proofs.Common.{◌≡◌, ℕ, ◌<◌, ◌≤◌, Bool, true, ◌&&◌, ltb, leb, List, [], ◌∷◌, ◌++◌, length, sym, refl, subst}
-use Rattle.std.specs.List.{AllByRecursion as All}
+use Rattle.std.proofs.Common.{◌≡◌, ℕ, ◌<◌, Bool, true, ◌&&◌, ltb, leb, List, [], ◌∷◌, ◌++◌, length, sym, refl, subst}
+use Rattle.std.specs.List.{AllByRecursion}
 use Rattle.std.proofs.lemmas.List.{append_assoc, append-nil}
 use Rattle.std.proofs.lemmas.Bool.{and_parts, ltb-true, leb-true}
 use Rattle.entries.specs.Equality.{same_sort}
@@ -22,7 +22,7 @@ abbrev fit_all : List NameView → List TermView → List TermView → Bool
 fit_all names done [] = true
 fit_all names done (t ∷ ts) = fits names done t && fit_all names (done ++ t ∷ []) ts
 
-below : (k : ℕ) (ns : List ℕ) → every (λ n. ltb n k) ns ≡ true → All (λ n. n < k) ns
+below : (k : ℕ) (ns : List ℕ) → every (λ n. ltb n k) ns ≡ true → AllByRecursion (λ n. n < k) ns
 below k [] e = tt
 below k (n ∷ ns) e = let both = and_parts (ltb n k) _ e in (ltb-true n k both.0, below k ns both.1)
 

@@ -1,6 +1,6 @@
 -- `some` and `every`: what they say of elements, and the steps of a loop.
 use Rattle.std.proofs.Common.{◌≡◌, ℕ, zero, suc, ◌+◌, ◌<◌, ◌≤◌, Bool, true, false, ◌&&◌, ◌||◌, List, [], ◌∷◌, ◌++◌, length, get_or, drop, sym, refl, ap, ◌∙◌, inl, inr, arith}
-use Rattle.std.specs.List.{flat_map, AllByRecursion as All}
+use Rattle.std.specs.List.{flat_map, AllByRecursion}
 use Rattle.std.proofs.lemmas.List.{at_drop_more, at_drop_all}
 use Rattle.std.proofs.lemmas.Bool.{and_parts, and_cases, or_cases, or_parts, false≢true, true≢false}
 use Rattle.meaning.specs.Values.{some, every}
@@ -26,11 +26,11 @@ module _ {X : Type 0} (f : X → Bool) where
     | inr h ↦ let w = every_not xs d h in (suc w.0, omega (arith, w.1), w.2)
   ]
 
-  pub every_all : (xs : List X) → every f xs ≡ true → All (λ x. f x ≡ true) xs
+  pub every_all : (xs : List X) → every f xs ≡ true → AllByRecursion (λ x. f x ≡ true) xs
   every_all [] e = tt
   every_all (x ∷ xs) e = let p = and_parts (f x) (every f xs) e in (p.0, every_all xs p.1)
 
-  pub some_none_all : (xs : List X) → some f xs ≡ false → All (λ x. f x ≡ false) xs
+  pub some_none_all : (xs : List X) → some f xs ≡ false → AllByRecursion (λ x. f x ≡ false) xs
   some_none_all [] e = tt
   some_none_all (x ∷ xs) e = let p = or_parts (f x) (some f xs) e in (p.0, some_none_all xs p.1)
 

@@ -1,6 +1,6 @@
 -- Cases that are worked by the definitions alone.
 use Rattle.std.specs.Prelude.{◌≡◌, List}
-use Rattle.std.specs.List.{AllByRecursion as All}
+use Rattle.std.specs.List.{AllByRecursion}
 use Rattle.referee.specs.Meaning.{Meaning}
 use Rattle.referee.specs.Questions.{Asked}
 use Rattle.referee.specs.declared.ruling.Ruling.{Ruling}
@@ -12,4 +12,4 @@ pub record Case : Type 0 where
 
 -- Each case of a list gets its ruling.
 abbrev pub Worked : Meaning → List Case → Type 0
-Worked m cases = All (λ (c : Case). m.judge c.question ≡ c.ruling) cases
+Worked m cases = AllByRecursion (λ (c : Case). m.judge c.question ≡ c.ruling) cases

@@ -1,6 +1,6 @@
 -- What a referee is asked.
 use Rattle.std.specs.Prelude.{ℕ, ◌<◌, ◌≤◌, List, map, length, ℤ, unsigned_abs}
-use Rattle.std.specs.List.{AllByRecursion as All}
+use Rattle.std.specs.List.{AllByRecursion}
 use Rattle.entries.specs.declared.entry.Literal.{Literal}
 use Rattle.entries.specs.Views.{TermView, views_of, clause_of}
 use Rattle.meaning.specs.Proper.{Formed}
@@ -32,7 +32,7 @@ Among terms l = l.term < length terms
 pub record Posed (q : Asked) : Type 0 where
   pub formed : Formed q.terms
   pub few : length q.terms ≤ 4096
-  pub clause : All (Among q.terms) q.clause
+  pub clause : AllByRecursion (Among q.terms) q.clause
   pub short : length q.clause ≤ 64
-  pub premises : All (All (Among q.terms)) q.premises
-  pub small : All (λ a. unsigned_abs a ≤ 1000000) q.args
+  pub premises : AllByRecursion (AllByRecursion (Among q.terms)) q.premises
+  pub small : AllByRecursion (λ a. unsigned_abs a ≤ 1000000) q.args

@@ -3,7 +3,6 @@ use Rattle.std.specs.Prelude.{ℕ, true, false, List, [], ◌∷◌, ℤ, codes}
 use Rattle.entries.specs.declared.entry.Head.{Head}
 use Rattle.entries.specs.declared.entry.Head.TheVariants as head
 use Rattle.entries.specs.declared.entry.Literal.{Literal}
-use Rattle.entries.specs.declared.entry.Sort.{Sort}
 use Rattle.entries.specs.declared.entry.Sort.TheVariants as sort
 use Rattle.entries.specs.Views.{NameView, TermView}
 use Rattle.referee.specs.Questions.{Asked}

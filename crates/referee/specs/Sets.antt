@@ -1,5 +1,5 @@
 -- Clauses compared as sets.
-use Rattle.std.specs.Prelude.{◌≡◌, Bool, true, ◌&&◌, List}
+use Rattle.std.specs.Prelude.{Bool, ◌&&◌, List}
 use Rattle.entries.specs.declared.entry.Literal.{Literal}
 use Rattle.entries.specs.Clauses.{holds_literal}
 use Rattle.meaning.specs.Values.{every}

@@ -1,5 +1,6 @@
 //! What judges one step of a proof by its rule: questions, rulings, referees, and pairs of them.
 #![tactic(auto)]
+
 mod names;
 mod nobody;
 mod pair;

@@ -1,6 +1,7 @@
 //! The referee that knows no rule.
 ghost use Rattle.referee.specs.Meaning.{nothing};
-ghost use Rattle.std.proofs.Common.{rules};
+ghost use Rattle.referee.specs.Laws.{nothing_keeps};
+ghost use Rattle.std.proofs.Common.{refl};
 
 use crate::question::Question;
 use crate::referee::Referee;
@@ -13,9 +14,9 @@ pub struct Nobody;
 impl Referee for Nobody {
     ghost meaning = { λ _. nothing };
 
-    ghost lawful = { Prim.search rules };
+    ghost lawful = { λ _. nothing_keeps };
 
-    ghost modest = { Prim.search rules };
+    ghost modest = { λ _ q unknown. refl };
 
     fn knows(&self, _rule: &[u8]) -> bool {
         false

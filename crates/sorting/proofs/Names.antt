@@ -1,6 +1,6 @@
 -- A declared name by its number.
 use Rattle.std.proofs.Common.{◌≡◌, ℕ, ◌<◌, ◌≤◌, true, false, ◌&&◌, ltb, List, map, length, get_or, sym, ap, ◌∙◌, subst, arith}
-use Rattle.std.specs.List.{AllByRecursion as All}
+use Rattle.std.specs.List.{AllByRecursion}
 use Rattle.std.proofs.ByRecursion.{All-get_or}
 use Rattle.std.proofs.lemmas.List.{get_or-map, get_or_past, length-map}
 use Rattle.std.proofs.lemmas.Bool.{lt-ltb, le-ltb}
@@ -28,7 +28,7 @@ pub argument_within : (ts : List Term) (n : ℕ) → Formed (views_of ts) → n 
 argument_within ts n formed lt t is args e i low =
     let here : n < length (views_of ts) = omega (arith, length-map ts term_of) in
     let same : args ≡ (term_at (views_of ts) n).args = e ∙ ap (λ v. v.args) is in
-    let below : All (λ m. m < n) args = subst (λ l. All (λ m. m < n) l) (sym same) (formed.1 n here).before in
+    let below : AllByRecursion (λ m. m < n) args = subst (λ l. AllByRecursion (λ m. m < n) l) (sym same) (formed.1 n here).before in
     omega (arith, All-get_or (λ m. m < n) args i 0 low below)
 
 -- the sort that a declared name gives

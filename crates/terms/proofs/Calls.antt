@@ -1,6 +1,6 @@
 -- Terms in brackets.
 use Rattle.std.proofs.Common.{◌≡◌, ℕ, ◌-◌, ◌<◌, ◌≤◌, min, Bool, List, [], ◌∷◌, map, length, take, Some, None, Option, sym, refl, ap, ◌∙◌, subst, arith}
-use Rattle.std.specs.List.{AllByRecursion as All}
+use Rattle.std.specs.List.{AllByRecursion}
 use Rattle.std.proofs.lemmas.List.{length-take}
 use Rattle.text.specs.Tokens.{Tok, opens, closes, symbol}
 use Rattle.forms.specs.Trees.{Tree, name, number, call, Trees, count, spell, spells, Fit, Fits}
@@ -80,8 +80,8 @@ module _ (names : List NameView) (most : ℕ) (wants : Bool) (old : List TermVie
       (subst (λ o. Follows (known names most wants at word o ns mid) answer new behind) is (subst (λ m. Follows (made names m wants at k ns mid) answer new behind) same g))
 
 -- a part from the start, as the code takes it
-pub front_within : (n : ℕ) (args : List ℕ) (len : ℕ) → All (λ k. k < n) (take len args) → All (λ k. k < n) (take (len - 0) args)
-front_within n args len h = let same : len ≡ len - 0 = omega arith in subst (λ m. All (λ k. k < n) (take m args)) same h
+pub front_within : (n : ℕ) (args : List ℕ) (len : ℕ) → AllByRecursion (λ k. k < n) (take len args) → AllByRecursion (λ k. k < n) (take (len - 0) args)
+front_within n args len h = let same : len ≡ len - 0 = omega arith in subst (λ m. AllByRecursion (λ k. k < n) (take m args)) same h
 
 pub front_few : (args : List ℕ) (len : ℕ) → len ≤ 64 → length (take (len - 0) args) ≤ 64
 front_few args len le = omega (arith, length-take (len - 0) args)

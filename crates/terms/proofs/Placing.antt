@@ -1,6 +1,6 @@
 -- One term more in the list, or the same list.
 use Rattle.std.proofs.Common.{◌≡◌, ℕ, ◌+◌, ◌-◌, ◌<◌, ◌≤◌, min, Bool, true, false, cond, not, ◌&&◌, ◌||◌, List, [], ◌∷◌, ◌++◌, map, length, take, Some, None, Ok, Err, Option, Result, sym, refl, ap, ◌∙◌, subst, inl, inr, ⊎_elim, arith}
-use Rattle.std.specs.List.{AllByRecursion as All}
+use Rattle.std.specs.List.{AllByRecursion}
 use Rattle.std.proofs.ByRecursion.{All-weaker}
 use Rattle.std.proofs.lemmas.List.{length-take, take-take, take-map, take_all, take-append-le, length-append, append-nil}
 use Rattle.entries.specs.declared.entry.Head.{Head}
@@ -28,7 +28,7 @@ module _ (names : List Name) (memory : List Term) (n : ℕ) (h : Ready names mem
   pub ready_formed : Formed (views_of (take (n - 0) memory))
   ready_formed = (map name_of names, subst (Proper (map name_of names)) (sym (cut memory n)) h.proper)
 
-  pub ready_within : (args : List ℕ) → All (λ k. k < n) args → All (λ k. k < length (take (n - 0) memory)) args
+  pub ready_within : (args : List ℕ) → AllByRecursion (λ k. k < n) args → AllByRecursion (λ k. k < length (take (n - 0) memory)) args
   ready_within args below =
       All-weaker (λ k. k < n) (λ k. k < length (take (n - 0) memory)) (λ k lt. omega (arith, length-take (n - 0) memory, h.few)) args below
 
@@ -88,13 +88,13 @@ module _ (names : List Name) (memory : List Term) (n : ℕ) (wants : Bool) (at :
     placed_none e = placed (Err (Full at)) (subst (λ o. Does (filed_as at o) (Err (Full at)) after) e refl)
 
   -- the list stays ready, and grows at its end
-  module _ (h : Ready names memory n) (below : All (λ m. m < n) args) (few : length args ≤ 64) (fit : fitting ns wants ts k args ≡ true) (most : ℕ) (t : TermView) (is : t ≡ view) (r : Option ℕ) (memory' : List Term) (n' : ℕ) (fits : n' ≤ room 4096 memory') (e : (r, terms_of memory' n') ≡ file most ts t) where
+  module _ (h : Ready names memory n) (below : AllByRecursion (λ m. m < n) args) (few : length args ≤ 64) (fit : fitting ns wants ts k args ≡ true) (most : ℕ) (t : TermView) (is : t ≡ view) (r : Option ℕ) (memory' : List Term) (n' : ℕ) (fits : n' ≤ room 4096 memory') (e : (r, terms_of memory' n') ≡ file most ts t) where
     long : length ts ≡ n
     long = length_terms_of memory n (omega (arith, h.few))
 
     standing : ProperAt ns ts (length ts) view
     standing = record {
-      before = subst (λ m. All (λ j. j < m) args) (sym long) below;
+      before = subst (λ m. AllByRecursion (λ j. j < m) args) (sym long) below;
       few = few;
       formed = first_true (well_formed ns ts k args) (not wants || same_sort (gives_sort ns k) sort.Bool) fit;
       given = refl;

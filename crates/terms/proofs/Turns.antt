@@ -10,7 +10,7 @@ use Rattle.entries.specs.Views.{NameView, TermView, term_of}
 use Rattle.forms.specs.Takes.{NoToken}
 use Rattle.declarations.specs.declared.fault.TermFault.{TermFault}
 use Rattle.terms.specs.Reading.{failed, got, got_all, failed_at, told_all, Begins, BeginsAll, ReadsTree, ReadsTrees}
-use Rattle.std.specs.List.{AllByRecursion as All}
+use Rattle.std.specs.List.{AllByRecursion}
 use Rattle.text.specs.Tokens.{Tok}
 use Rattle.entries.specs.declared.entry.Name.{Name}
 use Rattle.entries.specs.declared.entry.Term.{Term}
@@ -23,7 +23,7 @@ pub record Turn (names : List Name) (memory₀ : List Term) (n₀ : ℕ) (all : 
   pub mid : Midway (map name_of names) (room 4096 memory₀) all (terms_of memory₀ n₀) (take len args) (terms_of memory n) text
   pub ready : Ready names memory n
   pub grown : Grown memory₀ n₀ memory n
-  pub below : All (λ k. k < n) (take len args)
+  pub below : AllByRecursion (λ k. k < n) (take len args)
   pub short : length (take len args) ≡ len
   pub fewer : length text ≤ length all
 
@@ -84,7 +84,7 @@ module _ (names : List Name) (m₀ : List Term) (n₀ : ℕ) (all : List Tok) (m
             mid = subst (λ d. Midway (map name_of names) (room 4096 m₀) all (terms_of m₀ n₀) d (terms_of m' n') behind) (sym put) (onward _ _ _ _ _ _ _ turn.mid k after e other number behind (terms_of m' n') moved);
             ready = ready;
             grown = grown_on m₀ n₀ m n m' n' turn.grown grown;
-            below = subst (λ d. All (λ j. j < n') d) (sym put) (All-push (λ j. j < n') (take len args) number (All-weaker (λ j. j < n) (λ j. j < n') (λ j lt. omega (arith, grown.more)) (take len args) turn.below) within);
+            below = subst (λ d. AllByRecursion (λ j. j < n') d) (sym put) (All-push (λ j. j < n') (take len args) number (All-weaker (λ j. j < n) (λ j. j < n') (λ j lt. omega (arith, grown.more)) (take len args) turn.below) within);
             short = ap length put ∙ length_push (take len args) number ∙ ap (λ j. j + 1) turn.short;
             fewer = omega (arith, turn_less, turn.fewer);
           }

@@ -1,4 +1,6 @@
 //! The term layer: reading terms from text into the list.
+#![tactic(auto)]
+
 mod claim;
 mod guard;
 mod place;

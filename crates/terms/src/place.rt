@@ -1,6 +1,6 @@
 //! Putting one term into the list.
 ghost use Rattle.std.specs.Prelude.{◌≡◌, ◌<◌, ◌≤◌, not, ◌||◌, map, length, IfOk};
-ghost use Rattle.std.specs.List.{AllByRecursion as All};
+ghost use Rattle.std.specs.List.{AllByRecursion};
 ghost use Rattle.entries.specs.Equality.{same_sort};
 ghost use Rattle.entries.specs.Filing.{room};
 ghost use Rattle.entries.specs.declared.entry.Sort.TheVariants.{Bool as boolean};
@@ -48,7 +48,7 @@ pub fn place_term(
     args: &[u16],
 ) -> Result<u16, TermFault>
     requires ready { Ready names.now terms.old count.old }
-    requires within { All (λ n. n < count.old) args.now }
+    requires within { AllByRecursion (λ n. n < count.old) args.now }
     requires few { length args.now ≤ 64 }
     ensures does { Does (made (map name_of names.now) (room 4096 terms.old) wants at head args.now (terms_of terms.old count.old)) result (terms_of terms.new count.new) }
     ensures within { IfOk result (λ n. n < count.new) }

@@ -1,6 +1,6 @@
 //! Reading a term from its tokens into the list: arguments first, from the left.
 ghost use Rattle.std.specs.Prelude.{◌≡◌, ◌<◌, ◌≤◌, false, ◌∷◌, map, length, take, IfOk};
-ghost use Rattle.std.specs.List.{AllByRecursion as All};
+ghost use Rattle.std.specs.List.{AllByRecursion};
 ghost use Rattle.text.specs.Reading.{left};
 ghost use Rattle.text.specs.Tokens.{seen, opens};
 ghost use Rattle.entries.specs.Filing.{room};
@@ -96,7 +96,7 @@ fn read_args<'a>(
     requires begins { BeginsAll (left reader) }
     requires long { length args.old ≡ 64 }
     ensures reads { ReadsTrees (map name_of names.now) (room 4096 terms.old) (left reader.entry) (terms_of terms.old count.old) (told_all result args.new) (terms_of terms.new count.new) }
-    ensures within { IfOk result (λ p. (p.0 ≤ 64) × All (λ n. n < count.new) (take p.0 args.new)) }
+    ensures within { IfOk result (λ p. (p.0 ≤ 64) × AllByRecursion (λ n. n < count.new) (take p.0 args.new)) }
     ensures ready { Ready names.now terms.new count.new }
     ensures grown { Grown terms.old count.old terms.new count.new }
 {

@@ -1,6 +1,6 @@
 -- The first fault among a text's tokens is the leftmost.
 use Rattle.std.proofs.Common.{◌≡◌, ℕ, suc, ◌≤◌, List, [], ◌∷◌, map, Some, None, Ok, Err, Result, refl, ap, arith}
-use Rattle.std.specs.List.{ContainsAt as Has, AllByRecursion as All}
+use Rattle.std.specs.List.{ContainsAt as Has, AllByRecursion}
 use Rattle.std.proofs.ByRecursion.{All-weaker, All-map, all-has}
 use Rattle.text.specs.Parts.{Part}
 use Rattle.text.specs.Tokens.{Tok, opens, closes, symbol, keyword, numeral, fault, place_of, place, token_of, tokens, first_fault}
@@ -11,7 +11,7 @@ use Rattle.text.proofs.Places.{off, place_token}
 use Rattle.text.proofs.Shapes.{lexed}
 
 -- what is laid out from a place on stands there or after it
-after : (text : List ℕ) (from : ℕ) (ps : List Part) → Laid text from ps → All (λ p. from ≤ p.at) ps
+after : (text : List ℕ) (from : ℕ) (ps : List Part) → Laid text from ps → AllByRecursion (λ p. from ≤ p.at) ps
 after text from [] h = tt
 after text from (p ∷ ps) h =
     (h.0.forward, All-weaker (λ q. end_of p ≤ q.at) (λ q. from ≤ q.at) (λ q le. omega (arith, h.0.forward)) ps (after text (end_of p) ps h.2))
@@ -19,7 +19,7 @@ after text from (p ∷ ps) h =
 -- each token stands before those that follow
 Ordered : List Tok → Type 0
 Ordered [] = Unit {0}
-Ordered (t ∷ ts) = All (λ u. place t ≤ place u) ts × Ordered ts
+Ordered (t ∷ ts) = AllByRecursion (λ u. place t ≤ place u) ts × Ordered ts
 
 ordered : (text : List ℕ) (from : ℕ) (ps : List Part) → Laid text from ps → Ordered (map token_of ps)
 unfolding Ordered
@@ -31,7 +31,7 @@ ordered text from (p ∷ ps) h =
 NotLeft : ℕ → Tok → Type 0
 NotLeft i t = (g : TokenFault) → t ≡ fault g → i ≤ place_of g
 
-none_left : (f : TokenFault) (ts : List Tok) → Ordered ts → first_fault ts ≡ Some f → All (NotLeft (place_of f)) ts
+none_left : (f : TokenFault) (ts : List Tok) → Ordered ts → first_fault ts ≡ Some f → AllByRecursion (NotLeft (place_of f)) ts
 unfolding Ordered NotLeft
 none_left f [] o e = tt
 none_left f (opens at ∷ ts) o e = (λ g is. off (cc), none_left f ts o.1 e)
@@ -57,7 +57,7 @@ found f (numeral at n ∷ ts) e = has_next _ (fault f) ts (found f ts e)
 found f (fault h ∷ ts) e = (0, omega arith, λ d. ap fault (let same : h ≡ f = cc in same))
 
 -- where there is no first fault there is none
-unfaulted : (ts : List Tok) → first_fault ts ≡ None → All (λ t. (g : TokenFault) → t ≡ fault g → ⊥) ts
+unfaulted : (ts : List Tok) → first_fault ts ≡ None → AllByRecursion (λ t. (g : TokenFault) → t ≡ fault g → ⊥) ts
 unfaulted [] e = tt
 unfaulted (opens at ∷ ts) e = (λ g is. off (cc), unfaulted ts e)
 unfaulted (closes at ∷ ts) e = (λ g is. off (cc), unfaulted ts e)

@@ -1,6 +1,6 @@
 -- Each lexeme has its shape and begins outside comments.
 use Rattle.std.proofs.Common.{◌≡◌, ℕ, zero, suc, ◌+◌, ◌-◌, ◌<◌, ◌≤◌, true, false, List, [], ◌∷◌, length, get_or, take, drop, sym, refl, ap, ◌∙◌, inl, inr, ⊎_elim, add-zero, arith, length-take-le}
-use Rattle.std.specs.List.{prefix_len, AllByRecursion as All}
+use Rattle.std.specs.List.{prefix_len, AllByRecursion}
 use Rattle.std.proofs.ByRecursion.{All-from_get_or}
 use Rattle.std.proofs.lemmas.List.{get_or-take}
 use Rattle.std.proofs.lemmas.List.Sums.{prefix_len-le-length}
@@ -33,7 +33,7 @@ lexeme_bounded b bs = bound (kind b)
     bound Other = omega arith
 
 -- the bytes of a longest run of name bytes are name bytes
-names : (bs : List ℕ) → All (λ c. is_name c ≡ true) (take (prefix_len is_name bs) bs)
+names : (bs : List ℕ) → AllByRecursion (λ c. is_name c ≡ true) (take (prefix_len is_name bs) bs)
 names bs =
     All-from_get_or (λ c. is_name c ≡ true) (take (prefix_len is_name bs) bs) 0
     (λ i lt. let short : i < prefix_len is_name bs = omega (arith, length-take-le (prefix_len is_name bs) bs (prefix_len-le-length is_name bs)) in
@@ -108,7 +108,7 @@ module _ (text : List ℕ) (at b : ℕ) (bs : List ℕ) (here : drop at text ≡
           rw (byte_after text at b bs here (at + 1 + prefix_len in_line bs) (omega arith), place) (not-false _ stop)
 
 module _ (text : List ℕ) where
-  lexed_from : (past at : ℕ) (bs : List ℕ) → drop at text ≡ bs → (past < length bs → Outside text (at + past)) → All (Lexeme text) (parts lexeme past at bs)
+  lexed_from : (past at : ℕ) (bs : List ℕ) → drop at text ≡ bs → (past < length bs → Outside text (at + past)) → AllByRecursion (Lexeme text) (parts lexeme past at bs)
   unfolding parts
   lexed_from past at [] here out = tt
   lexed_from (suc past) at (b ∷ bs) here out =
@@ -117,8 +117,8 @@ module _ (text : List ℕ) where
   lexed_from zero at (b ∷ bs) here out =
       let now : Outside text at = rw add-zero at (out (omega arith)) in
       let rest = rest_at text at b bs here in
-      cond_both (is_blank b) _ _ (All (Lexeme text)) (λ e. lexed_from zero (at + 1) bs rest (λ _. outside_past text at b bs here 0 (omega arith) now (grind (arith, nat_tests)) (λ k lt. absurd (omega arith))))
-      (λ solid. cond_both (is_semicolon b) _ _ (All (Lexeme text)) (λ e. lexed_from (prefix_len in_line bs) (at + 1) bs rest (λ lt. outside_line text at b bs here lt))
+      cond_both (is_blank b) _ _ (AllByRecursion (Lexeme text)) (λ e. lexed_from zero (at + 1) bs rest (λ _. outside_past text at b bs here 0 (omega arith) now (grind (arith, nat_tests)) (λ k lt. absurd (omega arith))))
+      (λ solid. cond_both (is_semicolon b) _ _ (AllByRecursion (Lexeme text)) (λ e. lexed_from (prefix_len in_line bs) (at + 1) bs rest (λ lt. outside_line text at b bs here lt))
       (λ plain. (record { shape = shape text at b bs here (kind b) refl solid plain; outside = outside_here text at b bs here now plain }, lexed_from (lexeme b bs) (at + 1) bs rest (λ lt. outside_past text at b bs here (lexeme b bs) (lexeme_bounded b bs) now plain (no_semicolon b bs)))))
 
 pub lexed : (text : List ℕ) → Lexed text

@@ -1,6 +1,6 @@
 -- What holds of the parts of every text, seen from outside: a law beside the definition.
 use Rattle.std.specs.Prelude.{◌≡◌, ℕ, ◌+◌, ◌<◌, ◌≤◌, true, false, ◌⊎◌, List, [], ◌∷◌, length, take, drop, slice_index, slice_index_or}
-use Rattle.std.specs.List.{AllByRecursion as All}
+use Rattle.std.specs.List.{AllByRecursion}
 use Rattle.text.specs.Bytes.{is_name, is_blank, ends_line, kind}
 use Rattle.text.specs.Parts.{Part}
 use Rattle.text.specs.Tokens.{lexemes}
@@ -33,8 +33,8 @@ Laid text from (p ∷ ps) = Gap text from p.at × Stands text p × Laid text (en
 -- What a lexeme is: a round bracket, a longest run of name bytes, a colon with the longest such run after it, or a byte of no token.
 pub data Shape (text : List ℕ) (end : ℕ) : List ℕ → Type 0 where
   bracket : (b : ℕ) → (b ≡ 40) ⊎ (b ≡ 41) → Shape text end (b ∷ [])
-  run : (b : ℕ) (bs : List ℕ) → All (λ c. is_name c ≡ true) (b ∷ bs) → is_name (slice_index text end) ≡ false → Shape text end (b ∷ bs)
-  colon : (bs : List ℕ) → All (λ c. is_name c ≡ true) bs → is_name (slice_index text end) ≡ false → Shape text end (58 ∷ bs)
+  run : (b : ℕ) (bs : List ℕ) → AllByRecursion (λ c. is_name c ≡ true) (b ∷ bs) → is_name (slice_index text end) ≡ false → Shape text end (b ∷ bs)
+  colon : (bs : List ℕ) → AllByRecursion (λ c. is_name c ≡ true) bs → is_name (slice_index text end) ≡ false → Shape text end (58 ∷ bs)
   stray : (b : ℕ) → kind b ≡ Other → Shape text end (b ∷ [])
 
 -- A lexeme of a text has such a shape and begins outside comments.
@@ -45,4 +45,4 @@ pub record Lexeme (text : List ℕ) (p : Part) : Type 0 where
 -- The law of the token layer: a text is laid out by its lexemes.
 pub record Lexed (text : List ℕ) : Type 0 where
   pub laid : Laid text 0 (lexemes text)
-  pub each : All (Lexeme text) (lexemes text)
+  pub each : AllByRecursion (Lexeme text) (lexemes text)

@@ -1,6 +1,6 @@
 use Rattle.chains.specs.Entails.{chain_law}
-use Rattle.chains.specs.Closures.{closure_is_least, chains_decided}
-use Rattle.chains.specs.Rulings.{rulings_in_words}
+use Rattle.chains.proofs.Closures.{closure_is_least, chains_decided}
+use Rattle.chains.proofs.Rulings.{rulings_in_words}
 use Rattle.chains.proofs.chains_stand.Goals as goal
 
 pub returns : goal.returns

@@ -1,6 +1,5 @@
-use Rattle.std.proofs.Common.{sym, refl, ap, ◌∙◌}
 use Rattle.forms.specs.Parsed.{named}
-use Rattle.forms.proofs.Groups.{not_premises, not_args, no_group, group_follows, group_made, reason_made}
+use Rattle.forms.proofs.Groups.{not_premises, not_args, no_group, group_follows, reason_made}
 use Rattle.forms.proofs.Spelling.{tails}
 use Rattle.forms.proofs.proof.reason.Goals as goal
 

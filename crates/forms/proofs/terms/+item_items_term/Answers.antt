@@ -36,8 +36,8 @@ items-loop-count-preserved t c =
 pub items-returns : goal.items-returns
 items-returns t c = too_many _ _ _ _ _ c.loop-count.invariant (omega arith)
 
-pub term-returns-in_err-inner : goal.term-returns-in_err-inner
-term-returns-in_err-inner t c = rw c.from_residual.ensures (no_head _ _ _ c.in-Open.is c.in_err-inner.ensures)
+pub term-returns-in_err-inner-in-Open : goal.term-returns-in_err-inner-in-Open
+term-returns-in_err-inner-in-Open t c = rw c.from_residual.ensures (no_head _ _ _ c.in-Open.is c.in_err-inner-in-Open.ensures)
 
 pub term-returns-in-Symbol : goal.term-returns-in-Symbol
 term-returns-in-Symbol t c = is_name _ _ _ _ c.in-Symbol.is
@@ -45,9 +45,9 @@ term-returns-in-Symbol t c = is_name _ _ _ _ c.in-Symbol.is
 pub term-returns-in-Numeral : goal.term-returns-in-Numeral
 term-returns-in-Numeral t c = is_numeral _ _ _ _ c.in-Numeral.is
 
-pub term-returns-in_ok-inner : goal.term-returns-in_ok-inner
-term-returns-in_ok-inner t c =
-    inside_cases _ _ _ c.in-Open.is _ _ _ c.in_ok-inner.ensures c.items.result c.items.ensures
+pub term-returns-in_ok-inner-in-Open : goal.term-returns-in_ok-inner-in-Open
+term-returns-in_ok-inner-in-Open t c =
+    inside_cases _ _ _ c.in-Open.is _ _ _ c.in_ok-inner-in-Open.ensures c.items.result c.items.ensures
 
 pub term-returns-in_default : goal.term-returns-in_default
 term-returns-in_default t c = no_term _ _ c.in_default.not-Symbol c.in_default.not-Numeral c.in_default.not-Open

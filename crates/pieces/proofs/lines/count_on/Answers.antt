@@ -1,5 +1,5 @@
 use Rattle.std.proofs.Common.{◌≡◌, take, ap, arith}
-use Rattle.pieces.specs.Positions.{line_after, column_after, position_of}
+use Rattle.pieces.specs.Positions.{line_after, column_after}
 use Rattle.pieces.proofs.Feeds.{at_feed, at_other, at_end, line_le, column_le}
 use Rattle.pieces.proofs.lines.count_on.Goals as goal
 use Rattle.pieces.proofs.lines.count_on.Goals.{then-text-i-eq10, else-text-i-eq10}
@@ -17,10 +17,10 @@ loop-i-preserved c =
     elim c.if-text-i-eq10.branch [
       | then-text-i-eq10 w ↦
           let on = at_feed c.args.text.now _ _ _ c.if-i-text.true inv.1 inv.2 w.if-text-i-eq10.true in
-          (omega arith, omega (arith, on.0, w.line_is), omega (arith, on.1, w.column_is), omega (arith, w.line_is), omega (arith, w.column_is))
+          (omega arith, omega (arith, on.0, w.line-is), omega (arith, on.1, w.column-is), omega (arith, w.line-is), omega (arith, w.column-is))
       | else-text-i-eq10 w ↦
           let on = at_other c.args.text.now _ _ _ c.if-i-text.true inv.1 inv.2 w.if-text-i-eq10.false in
-          (omega arith, omega (arith, on.0, w.line_is), omega (arith, on.1, w.column_is), omega (arith, w.line_is), omega (arith, w.column_is))
+          (omega arith, omega (arith, on.0, w.line-is), omega (arith, on.1, w.column-is), omega (arith, w.line-is), omega (arith, w.column-is))
     ]
 
 pub returns-else-i-text : goal.returns-else-i-text

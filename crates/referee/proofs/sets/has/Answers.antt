@@ -1,4 +1,4 @@
-use Rattle.std.proofs.Common.{◌≡◌, length, take, Some, None, subst, arith}
+use Rattle.std.proofs.Common.{◌≡◌, Some, None, subst, arith}
 use Rattle.std.proofs.lemmas.List.{take_all}
 use Rattle.entries.specs.First.{First}
 use Rattle.referee.proofs.Finds.{found, missing}

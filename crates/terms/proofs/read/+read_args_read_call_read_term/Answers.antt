@@ -120,26 +120,26 @@ read_term-returns-in_default-head_named t c = record {
   grown = record { more = omega arith; kept = refl };
 }
 
-pub read_term-returns-in_err-number : goal.read_term-returns-in_err-number
-read_term-returns-in_err-number t c =
+pub read_term-returns-in_err-number-in-Symbol : goal.read_term-returns-in_err-number-in-Symbol
+read_term-returns-in_err-number-in-Symbol t c =
     let p = err_from_is_err_and c.from_residual.result c.from_residual.ensures.1 in
-    let done = c.in_err-number.ensures in
+    let done = c.in_err-number-in-Symbol.ensures in
     record {
-      reads = refused_reads (map name_of c.args.names.now) (room 4096 c.args.terms.now) c.args.wants _ _ _ c.from_residual.result p.0 c.in_err-number.field-0.0 p.1 p.2
-          (symbol_read (map name_of c.args.names.now) (room 4096 c.args.terms.now) c.args.wants (terms_of c.args.terms.now c.args.count.now) c.args.first (left c.args.after) _ _ c.in-Symbol.is c.in-Some.head c.in-Some.ensures (failed c.in_err-number.field-0.0) (terms_of c.place_term.new.terms c.place_term.new.count) (does_fails _ _ (terms_of c.place_term.new.terms c.place_term.new.count) (left c.args.after) done.does));
+      reads = refused_reads (map name_of c.args.names.now) (room 4096 c.args.terms.now) c.args.wants _ _ _ c.from_residual.result p.0 c.in_err-number-in-Symbol.field-0.0 p.1 p.2
+          (symbol_read (map name_of c.args.names.now) (room 4096 c.args.terms.now) c.args.wants (terms_of c.args.terms.now c.args.count.now) c.args.first (left c.args.after) _ _ c.in-Symbol.is c.in-Some.head c.in-Some.ensures (failed c.in_err-number-in-Symbol.field-0.0) (terms_of c.place_term.new.terms c.place_term.new.count) (does_fails _ _ (terms_of c.place_term.new.terms c.place_term.new.count) (left c.args.after) done.does));
       within = refused_within _ c.from_residual.result p.0 p.1;
       ready = done.ready;
       grown = done.grown;
     }
 
-pub read_term-returns-in_err-number-2 : goal.read_term-returns-in_err-number-2
-read_term-returns-in_err-number-2 t c =
-    let p = err_from_is_err_and c.from_residual-in_err-number-2.result c.from_residual-in_err-number-2.ensures.1 in
-    let done = c.in_err-number-2.ensures in
+pub read_term-returns-in_err-number-in-Numeral : goal.read_term-returns-in_err-number-in-Numeral
+read_term-returns-in_err-number-in-Numeral t c =
+    let p = err_from_is_err_and c.from_residual-in_err-number-in-Numeral.result c.from_residual-in_err-number-in-Numeral.ensures.1 in
+    let done = c.in_err-number-in-Numeral.ensures in
     record {
-      reads = refused_reads (map name_of c.args.names.now) (room 4096 c.args.terms.now) c.args.wants _ _ _ c.from_residual-in_err-number-2.result p.0 c.in_err-number-2.field-0.0 p.1 p.2
-          (numeral_read (map name_of c.args.names.now) (room 4096 c.args.terms.now) c.args.wants (terms_of c.args.terms.now c.args.count.now) c.args.first (left c.args.after) _ _ c.in-Numeral.is (failed c.in_err-number-2.field-0.0) (terms_of c.place_term-in-Numeral.new.terms c.place_term-in-Numeral.new.count) (does_fails _ _ (terms_of c.place_term-in-Numeral.new.terms c.place_term-in-Numeral.new.count) (left c.args.after) done.does));
-      within = refused_within _ c.from_residual-in_err-number-2.result p.0 p.1;
+      reads = refused_reads (map name_of c.args.names.now) (room 4096 c.args.terms.now) c.args.wants _ _ _ c.from_residual-in_err-number-in-Numeral.result p.0 c.in_err-number-in-Numeral.field-0.0 p.1 p.2
+          (numeral_read (map name_of c.args.names.now) (room 4096 c.args.terms.now) c.args.wants (terms_of c.args.terms.now c.args.count.now) c.args.first (left c.args.after) _ _ c.in-Numeral.is (failed c.in_err-number-in-Numeral.field-0.0) (terms_of c.place_term-in-Numeral.new.terms c.place_term-in-Numeral.new.count) (does_fails _ _ (terms_of c.place_term-in-Numeral.new.terms c.place_term-in-Numeral.new.count) (left c.args.after) done.does));
+      within = refused_within _ c.from_residual-in_err-number-in-Numeral.result p.0 p.1;
       ready = done.ready;
       grown = done.grown;
     }
@@ -147,21 +147,21 @@ read_term-returns-in_err-number-2 t c =
 pub read_term-unreachable-requires : goal.read_term-unreachable-requires
 read_term-unreachable-requires t c = no_other (map name_of c.args.names.now) (room 4096 c.args.terms.now) c.args.wants (terms_of c.args.terms.now c.args.count.now) c.args.first (left c.args.after) c.requires.begins c.in_default.not-Symbol c.in_default.not-Numeral c.in_default.not-Open
 
-pub read_term-returns-in_ok-number : goal.read_term-returns-in_ok-number
-read_term-returns-in_ok-number t c =
-    let done = c.in_ok-number.ensures in
+pub read_term-returns-in_ok-number-in-Symbol : goal.read_term-returns-in_ok-number-in-Symbol
+read_term-returns-in_ok-number-in-Symbol t c =
+    let done = c.in_ok-number-in-Symbol.ensures in
     record {
-      reads = symbol_read (map name_of c.args.names.now) (room 4096 c.args.terms.now) c.args.wants (terms_of c.args.terms.now c.args.count.now) c.args.first (left c.args.after) _ _ c.in-Symbol.is c.in-Some.head c.in-Some.ensures (got c.in_ok-number.number (left c.args.after)) (terms_of c.place_term.new.terms c.place_term.new.count) (does_gives _ _ (terms_of c.place_term.new.terms c.place_term.new.count) (left c.args.after) done.does);
+      reads = symbol_read (map name_of c.args.names.now) (room 4096 c.args.terms.now) c.args.wants (terms_of c.args.terms.now c.args.count.now) c.args.first (left c.args.after) _ _ c.in-Symbol.is c.in-Some.head c.in-Some.ensures (got c.in_ok-number-in-Symbol.number (left c.args.after)) (terms_of c.place_term.new.terms c.place_term.new.count) (does_gives _ _ (terms_of c.place_term.new.terms c.place_term.new.count) (left c.args.after) done.does);
       within = done.within;
       ready = done.ready;
       grown = done.grown;
     }
 
-pub read_term-returns-in_ok-number-2 : goal.read_term-returns-in_ok-number-2
-read_term-returns-in_ok-number-2 t c =
-    let done = c.in_ok-number-2.ensures in
+pub read_term-returns-in_ok-number-in-Numeral : goal.read_term-returns-in_ok-number-in-Numeral
+read_term-returns-in_ok-number-in-Numeral t c =
+    let done = c.in_ok-number-in-Numeral.ensures in
     record {
-      reads = numeral_read (map name_of c.args.names.now) (room 4096 c.args.terms.now) c.args.wants (terms_of c.args.terms.now c.args.count.now) c.args.first (left c.args.after) _ _ c.in-Numeral.is (got c.in_ok-number-2.number (left c.args.after)) (terms_of c.place_term-in-Numeral.new.terms c.place_term-in-Numeral.new.count) (does_gives _ _ (terms_of c.place_term-in-Numeral.new.terms c.place_term-in-Numeral.new.count) (left c.args.after) done.does);
+      reads = numeral_read (map name_of c.args.names.now) (room 4096 c.args.terms.now) c.args.wants (terms_of c.args.terms.now c.args.count.now) c.args.first (left c.args.after) _ _ c.in-Numeral.is (got c.in_ok-number-in-Numeral.number (left c.args.after)) (terms_of c.place_term-in-Numeral.new.terms c.place_term-in-Numeral.new.count) (does_gives _ _ (terms_of c.place_term-in-Numeral.new.terms c.place_term-in-Numeral.new.count) (left c.args.after) done.does);
       within = done.within;
       ready = done.ready;
       grown = done.grown;

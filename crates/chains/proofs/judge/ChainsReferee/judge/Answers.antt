@@ -1,6 +1,6 @@
 use Rattle.std.proofs.Common.{true, false, sym}
 use Rattle.referee.specs.Questions.{asked}
-use Rattle.chains.specs.Rulings.{clause_placed, premises_placed, ruled_by_lem}
+use Rattle.chains.proofs.Rulings.{clause_placed, premises_placed, ruled_by_lem}
 use Rattle.chains.proofs.judge.ChainsReferee.judge.Goals as goal
 
 pub follows-requires : goal.follows-requires

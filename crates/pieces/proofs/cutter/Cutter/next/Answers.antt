@@ -1,4 +1,3 @@
-use Rattle.std.proofs.Common.{sym, refl, ap, ◌∙◌, rules}
 use Rattle.text.proofs.Cuts.{no_part, next_part}
 use Rattle.pieces.specs.Pieces.{piece}
 use Rattle.pieces.specs.Cutting.{left}
