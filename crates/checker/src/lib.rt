@@ -1,5 +1,6 @@
 //! The referees put together.
 #![tactic(auto)]
+
 ghost use Rattle.std.specs.Prelude.{◌≡◌};
 ghost use Rattle.referee.specs.Cases.{Worked};
 ghost use Rattle.referee.specs.Meaning.{Lawful, pair};

@@ -1,5 +1,6 @@
 //! The referee for the rules of equality.
 #![tactic(auto)]
+
 mod cong;
 mod congruent;
 mod heads;
