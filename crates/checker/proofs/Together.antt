@@ -1,11 +1,11 @@
 -- The referees together: the law, and the worked cases by one computed test.
-use mathlib.Core.Path.{refl}
+use Rattle.std.proofs.Common.{refl}
 use Rattle.referee.specs.Cases.{Worked}
 use Rattle.referee.specs.Meaning.{Lawful, pair}
 use Rattle.referee.specs.Laws.{pairs_keep}
 use Rattle.referee.proofs.Worked.{all_worked}
 use Rattle.chains.specs.Rule.{chains}
-use Rattle.chains.specs.Rulings.{chains_lawful}
+use Rattle.chains.specs.Lawful.{chains_lawful}
 use Rattle.connectives.specs.Rules.{connectives}
 use Rattle.connectives.specs.Table.{table}
 use Rattle.connectives.specs.Valid.{connectives_lawful}

@@ -1,11 +1,11 @@
 -- What a declaration answers on each way out.
-use Rattle.std.proofs.Common.{◌≡◌, ℕ, ◌+◌, ◌<◌, ◌≤◌, true, false, List, map, length, take, set, Ok, Err, sym, ap, ◌∙◌}
+use Rattle.std.proofs.Common.{◌≡◌, ℕ, ◌+◌, ◌<◌, ◌≤◌, true, false, List, length, set, Ok, Err, sym, ap, ◌∙◌}
 use Rattle.std.proofs.lemmas.Bool.{cond-true, cond-false}
 use Rattle.entries.specs.declared.entry.Symbol.{Symbol}
 use Rattle.entries.specs.declared.entry.Name.{Name}
 use Rattle.entries.specs.Views.{NameView, word_of, words_of, name_of, names_of}
 use Rattle.forms.specs.Forms.{Named, DeclareFun}
-use Rattle.declarations.specs.Declaring.{Outcome, refused, at_end, declared_sort, filed, declared_fun}
+use Rattle.declarations.specs.Declaring.{refused, at_end, declared_sort, filed, declared_fun}
 use Rattle.declarations.specs.Signatures.{signature}
 use Rattle.declarations.specs.Known.{kept, is_taken}
 use Rattle.declarations.specs.declared.fault.TermFault.{TermFault}

@@ -1,9 +1,8 @@
 -- An entry that goes to the end of a list in a memory, seen through its view.
-use Rattle.std.proofs.Common.{◌≡◌, ℕ, ◌+◌, ◌<◌, ◌≤◌, true, false, cond, List, [], ◌∷◌, ◌++◌, map, length, take, set, Ok, Err, Result, sym, refl, ap, ◌∙◌, arith}
+use Rattle.std.proofs.Common.{◌≡◌, ℕ, ◌+◌, ◌<◌, ◌≤◌, List, [], ◌∷◌, ◌++◌, map, length, take, set, Ok, Err, sym, ap, ◌∙◌, arith}
 use Rattle.std.proofs.lemmas.List.{length-map, length-take-le, take_more_set, map_push}
 use Rattle.std.proofs.lemmas.Bool.{cond-true, cond-false, lt-ltb, le-ltb}
 use Rattle.declarations.specs.Declaring.{Outcome, at_end}
-use Rattle.declarations.specs.declared.fault.TermFault.{TermFault}
 use Rattle.declarations.specs.declared.fault.TermFault.TheVariants.{Full}
 
 module _ {X Y : Type 0} (view : X → Y) (memory : List X) (n most at : ℕ) where

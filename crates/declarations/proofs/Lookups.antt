@@ -1,5 +1,5 @@
 -- What a search among declared words answers.
-use Rattle.std.proofs.Common.{◌≡◌, ℕ, List, take, Some, None, Option, sym, refl, ap, ◌∙◌}
+use Rattle.std.proofs.Common.{◌≡◌, ℕ, List, take, Some, None, Option, ap, ◌∙◌}
 use Rattle.std.specs.Option.{option_map, option_or}
 use Rattle.std.specs.Str.{bytes_eq}
 use Rattle.entries.specs.declared.entry.Name.{Name}
@@ -7,7 +7,7 @@ use Rattle.entries.specs.declared.entry.Sort.{Sort}
 use Rattle.entries.specs.declared.entry.Sort.TheVariants as sort
 use Rattle.entries.specs.declared.entry.Symbol.{Symbol}
 use Rattle.entries.specs.First.{First, first_place}
-use Rattle.entries.specs.Views.{NameView, word_of, name_of, words_of, names_of}
+use Rattle.entries.specs.Views.{NameView, word_of, words_of, names_of}
 use Rattle.entries.proofs.Lookups.{word_place, name_place}
 use Rattle.declarations.specs.Words.{built_in}
 use Rattle.declarations.specs.Known.{kept, sort_named, name_named}

@@ -1,13 +1,13 @@
 -- What a declaration makes, from the text that it is.
-use Rattle.std.proofs.Common.{◌≡◌, ℕ, ◌≤◌, List, [], ◌∷◌, length, take, Some, None, Ok, Err, codes, Option, Result, sym, refl, ap, ◌∙◌, arith}
+use Rattle.std.proofs.Common.{◌≡◌, ℕ, ◌≤◌, List, [], ◌∷◌, length, take, Some, None, Ok, Err, codes, Option, Result, sym, ap, ◌∙◌, arith}
 use Rattle.std.proofs.lemmas.List.{take_all}
 use Rattle.entries.specs.declared.entry.Sort.{Sort}
 use Rattle.entries.specs.Views.{NameView}
 use Rattle.forms.specs.Forms.{Named, DeclareFun, word}
-use Rattle.forms.specs.Parsed.{Entry, function, kept_declare_fun}
+use Rattle.forms.specs.Parsed.{function}
 use Rattle.forms.specs.Trees.{spells}
 use Rattle.text.specs.Reading.{Next}
-use Rattle.text.specs.Tokens.{Tok, opens, closes, symbol, fault, seen, tokens_from}
+use Rattle.text.specs.Tokens.{Tok, opens, closes, symbol, fault, tokens_from}
 use Rattle.text.specs.declared.token.Token.{Token}
 use Rattle.text.specs.declared.token.TokenFault.{TokenFault}
 use Rattle.text.proofs.Places.{off}

@@ -1,13 +1,12 @@
 -- The sorts of a list, read from the left.
-use Rattle.std.proofs.Common.{◌≡◌, ℕ, ◌+◌, ◌≤◌, List, [], ◌∷◌, ◌++◌, Some, None, Ok, Err, Option, Result, sym, refl, ap, ◌∙◌, arith}
+use Rattle.std.proofs.Common.{◌≡◌, ℕ, ◌+◌, ◌≤◌, List, [], ◌∷◌, ◌++◌, Ok, Err, Result, sym, refl, ap, ◌∙◌, arith}
 use Rattle.std.proofs.lemmas.List.{append-nil, append_assoc}
 use Rattle.entries.specs.declared.entry.Sort.{Sort}
-use Rattle.forms.specs.Forms.{Named, word}
-use Rattle.forms.specs.Trees.{Tree, name, number, call, Trees, none, more, count, spell, spells, Fit, Fits}
+use Rattle.forms.specs.Trees.{name, number, call, Trees, none, more, count, spells, Fits}
 use Rattle.forms.specs.declared.item.Item.TheVariants.{Symbol}
-use Rattle.text.specs.Tokens.{Tok, opens, closes, symbol}
+use Rattle.text.specs.Tokens.{Tok, closes, symbol}
 use Rattle.text.proofs.Places.{off}
-use Rattle.declarations.specs.Signatures.{◌then◌, sort_of, sort_of_item, sorts_of}
+use Rattle.declarations.specs.Signatures.{◌then◌, sort_of, sorts_of}
 use Rattle.declarations.specs.declared.fault.TermFault.{TermFault}
 
 -- sorts that were found before others

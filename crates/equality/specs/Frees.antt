@@ -1,5 +1,5 @@
 -- No premises.
-use Rattle.std.specs.Prelude.{◌≡◌, true, false, List, [], ◌∷◌, map, length, Decides, ◌==◌, refl}
+use Rattle.std.specs.Prelude.{◌≡◌, List, [], ◌∷◌, map, length, Decides, ◌==◌, refl}
 use Rattle.std.proofs.Common.{ap, arith}
 use Rattle.std.proofs.lemmas.Bool.{ne_eqb, false≢true}
 use Rattle.equality.specs.Meaning.{none}

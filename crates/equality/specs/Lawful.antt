@@ -1,5 +1,5 @@
 -- What keeps a rule of equality is entailed.
-use Rattle.std.specs.Prelude.{◌≡◌, ℕ, ◌<◌, Bool, true, false, not, List, [], ◌∷◌, map, length, ℤ, refl}
+use Rattle.std.specs.Prelude.{◌≡◌, ℕ, ◌<◌, Bool, true, false, not, List, [], ◌∷◌, map, length, ℤ, is_some, Some, None, Option, refl}
 use Rattle.std.proofs.Common.{inl, inr, sym, ap, ◌∙◌, subst, arith}
 use Rattle.std.specs.List.{ContainsAt as Has, AllByRecursion}
 use Rattle.std.proofs.ByRecursion.{all-has, has_append_left, has_push}
@@ -10,12 +10,14 @@ use Rattle.meaning.specs.Proper.{Proper, term_at}
 use Rattle.meaning.specs.Truth.{signed, literal_true, clause_true}
 use Rattle.meaning.specs.Values.{Reading, every, same_value, value, value_of, is_true}
 use Rattle.meaning.proofs.Values.{same_value_decides, value_at, equal_true}
-use Rattle.referee.specs.Meaning.{Entailed, Lawful}
+use Rattle.referee.specs.declared.ruling.Ruling.TheVariants.{Unmet}
+use Rattle.referee.specs.Meaning.{Entailed, Lawful, Modest}
 use Rattle.referee.specs.Questions.{Asked, Among, Posed}
 use Rattle.equality.specs.declared.rule.Rule.{Rule}
 use Rattle.equality.specs.declared.rule.Rule.TheVariants.{Reflexive, Transitive, Congruent, Trans, Cong}
 use Rattle.equality.specs.declared.sides.Sides.{Sides}
-use Rattle.equality.specs.Meaning.{equality}
+use Rattle.equality.specs.Meaning.{ruled, equality}
+use Rattle.equality.specs.Names.{rule_named}
 use Rattle.equality.specs.Rules.{pairs}
 use Rattle.equality.specs.Words.{Equates, Says, Ends, Chain, args_at, IsReflexive, IsTransitive, IsCongruent, IsJoined, IsApplied, Meets, is_yes}
 use Rattle.equality.specs.Keeping.{yes_to_kept}
@@ -169,3 +171,11 @@ module _ (names : List NameView) (q : Asked) (ok : Proper names q.terms) (posed 
 
 pub equality_lawful : Lawful equality
 equality_lawful names q ok posed agreed = let k = (yes_to_kept q).0 (ap is_yes agreed) in met_entailed names q ok posed k.rule k.meets
+
+-- A name that is no rule's is not met.
+unnamed : (r : Option Rule) (q : Asked) → is_some r ≡ false → ruled r q ≡ Unmet
+unnamed None q e = refl
+unnamed (Some r) q e = absurd (true≢false e)
+
+pub equality_modest : Modest equality
+equality_modest q unknown = unnamed (rule_named q.rule) q unknown

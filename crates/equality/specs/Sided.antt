@@ -101,9 +101,9 @@ only_by (k ∷ ks) l is =
     let same = some_same k l w.1 in
     (subst (Has (k ∷ ks)) same (has_first k ks), λ m h. sym ((same_literal_decides k m).0 (has_every (same_literal k) (k ∷ ks) m w.0 h)) ∙ same)
 
-only_of : (c : List Literal) (l : Literal) → Has c l → ((m : Literal) → Has c m → m ≡ l) → only_of c ≡ Some l
-only_of [] l h alone = absurd (has_none l h)
-only_of (k ∷ ks) l h alone =
+only_of_lem : (c : List Literal) (l : Literal) → Has c l → ((m : Literal) → Has c m → m ≡ l) → only_of c ≡ Some l
+only_of_lem [] l h alone = absurd (has_none l h)
+only_of_lem (k ∷ ks) l h alone =
     let same = alone k (has_first k ks) in
     ap (λ b. cond b (Some k) None) (every_has (same_literal k) (k ∷ ks) (λ m g. (same_literal_decides k m).1 (same ∙ sym (alone m g))))
     ∙ ap Some same
@@ -120,4 +120,4 @@ module _ (terms : List TermView) where
       record { literal = w.0; has = only.0; alone = only.1; equates = equated_by terms false w.0 e w.2 }
 
   pub lone_of : (c : List Literal) (s t : ℕ) → Says terms c s t → lone terms c ≡ Some (record { left = s; right = t })
-  lone_of c s t w = ap (positive_of terms) (only_of c w.literal w.has w.alone) ∙ equated_of terms false w.literal s t w.equates
+  lone_of c s t w = ap (positive_of terms) (only_of_lem c w.literal w.has w.alone) ∙ equated_of terms false w.literal s t w.equates

@@ -3,8 +3,7 @@ ghost use Rattle.std.specs.Prelude.{◌≡◌, map};
 ghost use Rattle.entries.specs.Views.{clause_of};
 ghost use Rattle.referee.specs.Questions.{asked};
 ghost use Rattle.equality.specs.Meaning.{none, meets_rule, ruled_by, equality};
-ghost use Rattle.equality.specs.Lawful.{equality_lawful};
-ghost use Rattle.std.proofs.Common.{rules};
+ghost use Rattle.equality.specs.Lawful.{equality_lawful, equality_modest};
 
 use crate::cong::is_applied;
 use crate::congruent::is_congruent;
@@ -64,7 +63,7 @@ impl Referee for Equality {
 
     ghost lawful = { λ x. equality_lawful };
 
-    ghost modest = { Prim.search rules };
+    ghost modest = { λ x. equality_modest };
 
     fn knows(&self, rule: &[u8]) -> bool {
         rule_named(rule).is_some()

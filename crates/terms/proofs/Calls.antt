@@ -1,5 +1,5 @@
 -- Terms in brackets.
-use Rattle.std.proofs.Common.{◌≡◌, ℕ, ◌-◌, ◌<◌, ◌≤◌, min, Bool, List, [], ◌∷◌, map, length, take, Some, None, Option, sym, refl, ap, ◌∙◌, subst, arith}
+use Rattle.std.proofs.Common.{◌≡◌, ℕ, ◌-◌, ◌<◌, ◌≤◌, Bool, List, ◌∷◌, length, take, Some, None, sym, refl, ap, ◌∙◌, subst, arith}
 use Rattle.std.specs.List.{AllByRecursion}
 use Rattle.std.proofs.lemmas.List.{length-take}
 use Rattle.text.specs.Tokens.{Tok, opens, closes, symbol}
@@ -10,8 +10,8 @@ use Rattle.entries.specs.declared.entry.Head.{Head}
 use Rattle.entries.specs.Views.{NameView, TermView}
 use Rattle.declarations.specs.declared.fault.TermFault.{TermFault}
 use Rattle.declarations.specs.declared.fault.TermFault.TheVariants.{Unknown}
-use Rattle.terms.specs.Reads.{Out, fails, gives, Outs, stops, lists, with_args, head_named, made, known, read, reads}
-use Rattle.terms.specs.Reading.{Told, failed, got, Follows, Begins, ReadsTree, failed_at, got_all, FollowsAll, BeginsAll, ReadsTrees}
+use Rattle.terms.specs.Reads.{Outs, stops, lists, with_args, head_named, made, known}
+use Rattle.terms.specs.Reading.{Told, failed, Follows, Begins, ReadsTree, failed_at, got_all, FollowsAll, BeginsAll, ReadsTrees}
 use Rattle.terms.proofs.Midway.{by_tree}
 
 -- what follows the bracket of a term

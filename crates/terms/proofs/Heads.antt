@@ -1,8 +1,7 @@
 -- The head that a word is.
-use Rattle.std.proofs.Common.{◌≡◌, ℕ, List, map, length, Some, None, Option, sym, refl, ap, ◌∙◌, arith}
+use Rattle.std.proofs.Common.{◌≡◌, ℕ, List, map, length, None, Option, ap, ◌∙◌, arith}
 use Rattle.std.specs.Option.{option_map, option_or}
 use Rattle.std.proofs.lemmas.List.{take_all}
-use Rattle.entries.specs.declared.entry.Head.{Head}
 use Rattle.entries.specs.declared.entry.Head.TheVariants as head
 use Rattle.entries.specs.declared.entry.Name.{Name}
 use Rattle.entries.specs.Views.{name_of, names_of}

@@ -1,16 +1,16 @@
 -- Terms of one token.
-use Rattle.std.proofs.Common.{◌≡◌, ℕ, Bool, List, [], ◌∷◌, IfOk, Some, None, Ok, Err, Option, Result, sym, refl, ap, ◌∙◌, subst, Bor}
-use Rattle.text.specs.Tokens.{Tok, opens, closes, symbol, numeral, keyword, seen}
+use Rattle.std.proofs.Common.{◌≡◌, ℕ, Bool, List, [], ◌∷◌, IfOk, Some, None, Ok, Err, Result, sym, refl, ap, ◌∙◌, subst, Bor}
+use Rattle.text.specs.Tokens.{Tok, seen}
 use Rattle.text.specs.declared.token.Token.{Token}
 use Rattle.text.specs.declared.token.Token.TheVariants as token
-use Rattle.forms.specs.Trees.{Tree, name, number, call, spell}
+use Rattle.forms.specs.Trees.{Tree, name, number, spell}
 use Rattle.forms.proofs.Spelling.{off, not_close, not_keyword}
 use Rattle.entries.specs.declared.entry.Head.{Head}
 use Rattle.entries.specs.declared.entry.Head.TheVariants as head
 use Rattle.entries.specs.Views.{NameView, TermView}
 use Rattle.declarations.specs.declared.fault.TermFault.{TermFault}
 use Rattle.declarations.specs.declared.fault.TermFault.TheVariants.{Unknown}
-use Rattle.terms.specs.Reads.{Out, fails, gives, head_named, made, known, read}
+use Rattle.terms.specs.Reads.{Out, fails, gives, head_named, made, known}
 use Rattle.text.specs.declared.reader.Reader.{Reader}
 use Rattle.terms.specs.Reading.{Told, failed, got, told, Follows, Begins, ReadsTree}
 use Rattle.terms.specs.State.{Does}

@@ -5,12 +5,12 @@ use Rattle.text.specs.Tokens.{Tok, closes, seen}
 use Rattle.text.specs.declared.token.Token.{Token}
 use Rattle.text.specs.declared.token.Token.TheVariants as token
 use Rattle.forms.specs.Takes.{NoToken}
-use Rattle.forms.specs.Trees.{Tree, name, number, call, Trees, none, more, count, spell, spells, Fits, First}
+use Rattle.forms.specs.Trees.{Tree, name, number, call, Trees, none, more, count, spell, spells, Fits}
 use Rattle.forms.specs.declared.item.Item.TheVariants.{Term}
 use Rattle.forms.proofs.Spelling.{off, not_close, same_tree, same_trees}
 use Rattle.entries.specs.Views.{NameView, TermView}
 use Rattle.declarations.specs.declared.fault.TermFault.{TermFault}
-use Rattle.terms.specs.Reads.{Out, fails, gives, Outs, stops, lists, with_first, read, reads}
+use Rattle.terms.specs.Reads.{Out, fails, gives, with_first, read, reads}
 use Rattle.terms.specs.Reading.{Told, failed, got, Follows, Begins, ReadsTree, ToldAll, failed_at, got_all, FollowsAll, BeginsAll, ReadsTrees}
 
 -- one witness is every witness, as spelling shows the tree

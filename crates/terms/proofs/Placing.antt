@@ -1,5 +1,5 @@
 -- One term more in the list, or the same list.
-use Rattle.std.proofs.Common.{◌≡◌, ℕ, ◌+◌, ◌-◌, ◌<◌, ◌≤◌, min, Bool, true, false, cond, not, ◌&&◌, ◌||◌, List, [], ◌∷◌, ◌++◌, map, length, take, Some, None, Ok, Err, Option, Result, sym, refl, ap, ◌∙◌, subst, inl, inr, ⊎_elim, arith}
+use Rattle.std.proofs.Common.{◌≡◌, ℕ, ◌-◌, ◌<◌, ◌≤◌, Bool, true, false, cond, not, ◌&&◌, ◌||◌, List, [], ◌∷◌, ◌++◌, map, length, take, Some, None, Ok, Err, Option, Result, sym, refl, ap, ◌∙◌, subst, ⊎_elim, arith}
 use Rattle.std.specs.List.{AllByRecursion}
 use Rattle.std.proofs.ByRecursion.{All-weaker}
 use Rattle.std.proofs.lemmas.List.{length-take, take-take, take-map, take_all, take-append-le, length-append, append-nil}
@@ -17,7 +17,7 @@ use Rattle.meaning.specs.Sorts.{gives_sort}
 use Rattle.meaning.proofs.Propers.{proper_filed}
 use Rattle.declarations.specs.declared.fault.TermFault.{TermFault}
 use Rattle.declarations.specs.declared.fault.TermFault.TheVariants.{Misfit, Full}
-use Rattle.terms.specs.Reads.{Out, fails, gives, fitting, filed_as, made}
+use Rattle.terms.specs.Reads.{fails, fitting, filed_as, made}
 use Rattle.terms.specs.State.{Ready, Grown, Does}
 
 -- a part from the start, as the code takes it

@@ -3,7 +3,7 @@ use Rattle.std.specs.Prelude.{◌≡◌, ℕ, ◌≤◌, Bool, true, List, [], �
 use Rattle.text.specs.Reading.{left}
 use Rattle.text.specs.Tokens.{Tok, closes}
 use Rattle.text.specs.declared.reader.Reader.{Reader}
-use Rattle.forms.specs.Trees.{Tree, Trees, count, spell, spells, Fit, Fits, First}
+use Rattle.forms.specs.Trees.{Tree, Trees, count, spell, spells, Fits, First}
 use Rattle.forms.specs.declared.item.Item.TheVariants.{Term}
 use Rattle.entries.specs.Views.{NameView, TermView}
 use Rattle.declarations.specs.declared.fault.TermFault.{TermFault}

@@ -1,5 +1,5 @@
 -- Reading a term into the list: arguments first, from the left, up to the first fault.
-use Rattle.std.specs.Prelude.{◌≡◌, ℕ, Bool, false, cond, not, ◌&&◌, ◌||◌, List, [], ◌∷◌, ◌++◌, Some, None, Option}
+use Rattle.std.specs.Prelude.{ℕ, Bool, false, cond, not, ◌&&◌, ◌||◌, List, [], ◌∷◌, ◌++◌, Some, None, Option}
 use Rattle.std.specs.Option.{option_map, option_or}
 use Rattle.forms.specs.Trees.{Tree, name, number, call, Trees, none, more}
 use Rattle.entries.specs.declared.entry.Head.{Head}

@@ -1,9 +1,8 @@
-use Rattle.std.proofs.Common.{◌≡◌, ◌-◌, ◌≤◌, length, take, ap, arith}
+use Rattle.std.proofs.Common.{◌≡◌, ◌-◌, ◌≤◌, take, ap, arith}
 use Rattle.std.proofs.lemmas.List.{length-take}
 use Rattle.std.proofs.lemmas.Result.{err_from_is_err_and}
 use Rattle.entries.specs.Views.{words_of, name_of}
 use Rattle.forms.specs.Parsed.{named}
-use Rattle.text.specs.Reading.{left}
 use Rattle.declarations.proofs.Makings.{same_name, same_gives, inside, listed, takes_unknown, gives_unknown, makes}
 use Rattle.declarations.proofs.signature.signature.Goals as goal
 

@@ -1,7 +1,6 @@
-use Rattle.std.proofs.Common.{◌≡◌, ℕ, min, List, [], ◌∷◌, map, length, take, Ok, Err, sym, refl, ap, ◌∙◌, subst, arith}
+use Rattle.std.proofs.Common.{min, map, length, take, Ok, Err, sym, refl, ap, ◌∙◌, subst, arith}
 use Rattle.std.proofs.lemmas.Result.{err_from_is_err_and}
 use Rattle.text.specs.Reading.{left}
-use Rattle.text.specs.Tokens.{seen}
 use Rattle.entries.specs.Filing.{room}
 use Rattle.entries.specs.Views.{name_of, terms_of}
 use Rattle.terms.specs.Reading.{failed, got}

@@ -1,4 +1,4 @@
-use Rattle.std.proofs.Common.{◌≡◌, ◌+◌, ◌*◌, length}
+use Rattle.std.proofs.Common.{◌+◌, ◌*◌, length}
 use Rattle.text.specs.Reading.{left}
 use Rattle.terms.proofs.Turns.{Turn}
 use Rattle.terms.proofs.read.+read_args_read_call_read_term.Given as goal
