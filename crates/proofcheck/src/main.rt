@@ -9,6 +9,7 @@ use crate::failure::Failure;
 use crate::file::{File, check_file};
 use crate::report::Report;
 use commands::{Kind, Part};
+use std::process::ExitCode;
 use std::{env, fs};
 
 const USAGE: &str = "usage: proofcheck [--list] PROBLEM PROOF";
@@ -80,25 +81,34 @@ fn misused(rt: &HostRuntime) -> Result<(), Failure> {
     Err(Failure::Usage)
 }
 
-fn main(rt: HostRuntime) -> Result<(), Failure> {
-    let mut args = env::args(&rt)?.skip(1);
+/// Does what the arguments ask for.
+fn answer(rt: &HostRuntime) -> Result<(), Failure> {
+    let mut args = env::args(rt)?.skip(1);
     let mut first = args.next();
     let list = first.as_deref() == Some("--list");
     if list {
         first = args.next();
     }
     let Some(problem) = first else {
-        return misused(&rt);
+        return misused(rt);
     };
     if problem.as_str() == "--help" {
         println!(rt; "{HELP}")?;
         return Ok(());
     }
     let Some(proof) = args.next() else {
-        return misused(&rt);
+        return misused(rt);
     };
     if args.next().is_some() {
-        return misused(&rt);
+        return misused(rt);
     }
-    run(&rt, list, problem.as_str(), proof.as_str())
+    run(rt, list, problem.as_str(), proof.as_str())
+}
+
+/// What went wrong has been printed when the status is 1.
+fn main(rt: HostRuntime) -> ExitCode {
+    match answer(&rt) {
+        Ok(()) => ExitCode::SUCCESS,
+        Err(_) => ExitCode::FAILURE,
+    }
 }
