@@ -12,7 +12,7 @@ use Rattle.commands.specs.Faults as fault
 use Rattle.commands.specs.declared.part.Part.{Part}
 use Rattle.commands.specs.declared.part.Part.TheVariants as part
 use Rattle.commands.specs.declared.fault.Fault.{Fault}
-use Rattle.commands.specs.declared.fault.Fault.TheVariants as fault-of
+use Rattle.commands.specs.declared.fault.Fault.TheVariants as fault_of
 use Rattle.commands.specs.declared.form.Form.{Form}
 use Rattle.commands.specs.declared.form.Form.TheVariants.{Problem, Proof}
 use Rattle.commands.specs.declared.kind.Kind.{Kind}
@@ -32,8 +32,8 @@ OfForm part.Proof ts (Err f) = Layer FitProof spell_proof kept_proof seen_proof 
 
 -- The layers in their order: the first fault of a token, or else what the form layer says.
 abbrev pub Examined : Part → List Tok → Result Command Fault → Type 0
-Examined p ts (Err (fault-of.Token f)) = first_fault ts ≡ Some f
-Examined p ts (Err (fault-of.Form f)) = (first_fault ts ≡ None) × OfForm p ts (Err f)
+Examined p ts (Err (fault_of.Token f)) = first_fault ts ≡ Some f
+Examined p ts (Err (fault_of.Form f)) = (first_fault ts ≡ None) × OfForm p ts (Err f)
 Examined p ts (Ok command) = (first_fault ts ≡ None) × (command.tokens ≡ length ts) × OfForm p ts (Ok command.form)
 
 -- Chatter is skipped, and all else is examined.

@@ -1,7 +1,7 @@
 //! The table of rules, and the search for a rule by its name.
 ghost use Rattle.std.specs.Prelude.{◌≡◌, map};
 ghost use Rattle.std.specs.Option.{option_map};
-ghost use Rattle.connectives.specs.Table.{rule_named, table as theTable};
+ghost use Rattle.connectives.specs.Table.{rule_named, table as the_table};
 ghost use Rattle.connectives.specs.Search.{seen};
 
 use crate::table::{Connective, Part, Piece, Rule};
@@ -211,7 +211,7 @@ static TABLE: [Rule; 25] = [
 ];
 
 fn rules() -> &'static [Rule]
-    ensures { map seen result.now ≡ theTable }
+    ensures { map seen result.now ≡ the_table }
 {
     &TABLE
 }

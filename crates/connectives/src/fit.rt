@@ -7,7 +7,7 @@ ghost use Rattle.entries.specs.Views.{views_of, clause_of};
 ghost use Rattle.meaning.specs.Proper.{Formed, sort_at};
 ghost use Rattle.meaning.specs.Values.{some, every};
 ghost use Rattle.referee.specs.Questions.{asked, Posed};
-ghost use Rattle.connectives.specs.Rules.{begins as beginsBy, connects as connectsBy, is_picked, choices as choicesOf, takes as takesBy, meets_at, fits_as, meets};
+ghost use Rattle.connectives.specs.Rules.{begins as begins_by, connects as connects_by, is_picked, choices as choices_of, takes as takes_by, meets_at, fits_as, meets};
 ghost use Rattle.connectives.specs.Search.{seen, seat_of, shows};
 
 use crate::pieces::{args_of, same_clause};
@@ -18,7 +18,7 @@ use referee::Question;
 
 /// Whether the head is the connective's.
 fn begins(connective: Connective, head: Head) -> bool
-    ensures { result ≡ beginsBy connective head }
+    ensures { result ≡ begins_by connective head }
 {
     match (connective, head) {
         (Connective::Any, Head::Not) => false,
@@ -56,7 +56,7 @@ fn all_bool(terms: &[Term], ns: &[u16]) -> bool
 fn connects(terms: &[Term], connective: Connective, t: u16) -> bool
     requires formed { Formed (views_of terms.now) }
     requires within { t < length terms.now }
-    ensures { result ≡ connectsBy connective (views_of terms.now) t }
+    ensures { result ≡ connects_by connective (views_of terms.now) t }
 {
     if !begins(connective, term_at(terms, t).head) {
         return false;
@@ -90,7 +90,7 @@ fn picks(pieces: &[Piece]) -> bool
 
 /// How many arguments there are to pick from; a single turn where none is picked.
 fn choices(pieces: &[Piece], args: &[u16]) -> usize
-    ensures { result ≡ choicesOf pieces.now args.now }
+    ensures { result ≡ choices_of pieces.now args.now }
 {
     if picks(pieces) { args.len() } else { 1 }
 }
@@ -99,7 +99,7 @@ fn choices(pieces: &[Piece], args: &[u16]) -> usize
 fn takes(terms: &[Term], premise: Option<Piece>, t: u16, i: usize, premises: &[Clause]) -> bool
     requires formed { Formed (views_of terms.now) }
     requires within { t < length terms.now }
-    ensures { result ≡ takesBy (views_of terms.now) t i premise (map clause_of premises.now) }
+    ensures { result ≡ takes_by (views_of terms.now) t i premise (map clause_of premises.now) }
 {
     match premise {
         None => premises.len() == 0,

@@ -10,7 +10,7 @@ mod table;
 ghost use Rattle.referee.specs.Cases.{Worked};
 ghost use Rattle.connectives.specs.Cases.{cases};
 ghost use Rattle.connectives.specs.Examples.{examples};
-ghost use Rattle.connectives.specs.Rules.{connectives as theConnectives};
+ghost use Rattle.connectives.specs.Rules.{connectives as the_connectives};
 ghost use Rattle.connectives.specs.Words.{Exact, Single};
 
 pub use connectives::Connectives;
@@ -26,8 +26,8 @@ pub fn rulings_stand() -> bool
 /// The worked cases get the rulings that they should, and a step of each rule gets a yes: each
 /// `ensures` is a theorem.
 pub fn cases_stand() -> bool
-    ensures cases { Worked theConnectives cases }
-    ensures examples { Worked theConnectives examples }
+    ensures cases { Worked the_connectives cases }
+    ensures examples { Worked the_connectives examples }
 {
     true
 }

@@ -6,7 +6,7 @@ use Rattle.std.proofs.lemmas.Bool.{cases_Bool, cond-true, cond-false, lt-ltb, le
 use Rattle.std.proofs.lemmas.Bool.Decides.{Decides-by_or}
 use Rattle.entries.specs.declared.entry.Literal.{Literal}
 use Rattle.entries.specs.declared.entry.Term.{Term}
-use Rattle.entries.specs.Clauses.{holds_literal, with as withOne}
+use Rattle.entries.specs.Clauses.{holds_literal, with as with_one}
 use Rattle.entries.specs.Equality.{same_term, same_literal}
 use Rattle.entries.specs.Filing.{at_end, filed_at, file, Filed}
 use Rattle.entries.specs.First.{Nowhere, First, first_place}
@@ -96,10 +96,10 @@ pub holds_decides : (c : List Literal) (l : Literal) → Decides (holds_literal 
 holds_decides c l =
     Decides-by_or (λ m. same_literal m l) (λ m. m ≡ l) (λ ms. holds_literal ms l) (λ m. same_literal_decides m l) refl (λ _ _. refl) c
 
-pub with_there : (c : List Literal) (l : Literal) (i : ℕ) → First (λ m. m ≡ l) c (Some i) → c ≡ withOne c l
+pub with_there : (c : List Literal) (l : Literal) (i : ℕ) → First (λ m. m ≡ l) c (Some i) → c ≡ with_one c l
 with_there c l i h = sym (cond-true (holds_literal c l) _ _ ((holds_decides c l).1 (i, h.0, h.1)))
 
-pub with_new : (c : List Literal) (l : Literal) → First (λ m. m ≡ l) c None → c ++ l ∷ [] ≡ withOne c l
+pub with_new : (c : List Literal) (l : Literal) → First (λ m. m ≡ l) c None → c ++ l ∷ [] ≡ with_one c l
 with_new c l h = elim (cases_Bool (holds_literal c l)) [
   | inl e ↦ let w = (holds_decides c l).0 e in absurd (h w.0 l (omega arith) w.1 (w.2 l))
   | inr e ↦ sym (cond-false (holds_literal c l) _ _ e)

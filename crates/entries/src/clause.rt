@@ -1,7 +1,7 @@
 //! Literals and clauses.
 ghost use Rattle.std.specs.Prelude.{◌≡◌, ◌<◌, [], length};
 ghost use Rattle.entries.specs.Views.{clause_of};
-ghost use Rattle.entries.specs.Clauses.{complement_of, with as withOne};
+ghost use Rattle.entries.specs.Clauses.{complement_of, with as with_one};
 
 use crate::entry::{Clause, Literal};
 use crate::limits::MOST_LITERALS;
@@ -43,7 +43,7 @@ impl Clause {
     /// Adds a literal at the end, unless it is there.
     pub fn push(&mut self, literal: Literal)
         requires { length (clause_of self.old) < 64 }
-        ensures { clause_of self.new ≡ withOne (clause_of self.old) literal }
+        ensures { clause_of self.new ≡ with_one (clause_of self.old) literal }
     {
         let len = self.len as usize;
         match position(&self.literals, len, &literal) {

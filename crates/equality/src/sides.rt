@@ -3,7 +3,7 @@ ghost use Rattle.std.specs.Prelude.{◌≡◌};
 ghost use Rattle.entries.specs.Equality.{same_literal};
 ghost use Rattle.entries.specs.Views.{views_of};
 ghost use Rattle.equality.specs.Rules.{reflexive};
-ghost use Rattle.equality.specs.Sides.{two_of, equated as equatedBy, only_of, lone as loneBy, is_sides};
+ghost use Rattle.equality.specs.Sides.{two_of, equated as equated_sides, only_of, lone as lone_equality, is_sides};
 
 use crate::heads::{args_at, head_at, is_equal};
 use entries::{Literal, Term};
@@ -31,7 +31,7 @@ fn two_of(args: &[u16]) -> Option<Sides>
 
 /// The sides of the literal, if it has this sign and its term is an equality.
 pub(crate) fn equated(terms: &[Term], negative: bool, literal: Literal) -> Option<Sides>
-    ensures { result ≡ equatedBy (views_of terms.now) negative literal }
+    ensures { result ≡ equated_sides (views_of terms.now) negative literal }
 {
     if literal.negative == negative && is_equal(head_at(terms, literal.term)) {
         two_of(args_at(terms, literal.term))
@@ -65,7 +65,7 @@ fn only_of(clause: &[Literal]) -> Option<Literal>
 
 /// The sides of the equality that, as a set, is the clause.
 pub(crate) fn lone(terms: &[Term], clause: &[Literal]) -> Option<Sides>
-    ensures { result ≡ loneBy (views_of terms.now) clause.now }
+    ensures { result ≡ lone_equality (views_of terms.now) clause.now }
 {
     match only_of(clause) {
         None => None,

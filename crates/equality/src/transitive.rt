@@ -1,7 +1,7 @@
 //! `eq_transitive`: a chain of negated equalities, and last the equality of its ends.
 ghost use Rattle.std.specs.Prelude.{◌≡◌};
 ghost use Rattle.entries.specs.Views.{views_of};
-ghost use Rattle.equality.specs.Rules.{leads as leadsBy, transitive};
+ghost use Rattle.equality.specs.Rules.{leads as leads_on, transitive};
 
 use crate::last::{front_of, last_sides};
 use crate::sides::equated;
@@ -10,7 +10,7 @@ use entries::{Literal, Term};
 /// Whether the literals, in their order, are negated equalities that lead from the term `from` to the
 /// term `to`.
 fn leads(terms: &[Term], from: u16, links: &[Literal], to: u16) -> bool
-    ensures { result ≡ leadsBy (views_of terms.now) from links.now to }
+    ensures { result ≡ leads_on (views_of terms.now) from links.now to }
 {
     let mut at = from;
     for l in links {

@@ -26,12 +26,12 @@ pub opened : {a h : ℕ} {w : List ℕ} {text first body : List Tok} → text �
 opened p q = cc
 
 -- a form whose trees are some of those of a part, by a constructor of the part
-module _ {T P K F : Type 0} (Fit : T → Type 0) (spell : T → List Tok) (kept : T → K) (seen : F → K) (FitPart : P → Type 0) (spellPart : P → List Tok) (keptPart : P → K) (make : ℕ → ℕ → T → P) (word : List ℕ)
+module _ {T P K F : Type 0} (Fit : T → Type 0) (spell : T → List Tok) (kept : T → K) (seen : F → K) (FitPart : P → Type 0) (spell_part : P → List Tok) (kept_part : P → K) (make : ℕ → ℕ → T → P) (word : List ℕ)
     (fits : (a h : ℕ) (t : T) → Fit t → FitPart (make a h t))
-    (spells : (a h : ℕ) (t : T) → opens a ∷ symbol h word ∷ spell t ≡ spellPart (make a h t))
-    (keeps : (a h : ℕ) (t : T) → kept t ≡ keptPart (make a h t))
-    (only : (p : P) (a h : ℕ) (body : List Tok) → FitPart p → opens a ∷ symbol h word ∷ body ≡ spellPart p → (t : T) × Fit t × (body ≡ spell t)) where
-  of_part : (a h : ℕ) (w : List ℕ) (text body : List Tok) → w ≡ word → text ≡ opens a ∷ symbol h w ∷ body → (r : Option F) → Parses Fit spell kept seen body r → Parses FitPart spellPart keptPart seen text r
+    (spells : (a h : ℕ) (t : T) → opens a ∷ symbol h word ∷ spell t ≡ spell_part (make a h t))
+    (keeps : (a h : ℕ) (t : T) → kept t ≡ kept_part (make a h t))
+    (only : (p : P) (a h : ℕ) (body : List Tok) → FitPart p → opens a ∷ symbol h word ∷ body ≡ spell_part p → (t : T) × Fit t × (body ≡ spell t)) where
+  of_part : (a h : ℕ) (w : List ℕ) (text body : List Tok) → w ≡ word → text ≡ opens a ∷ symbol h w ∷ body → (r : Option F) → Parses Fit spell kept seen body r → Parses FitPart spell_part kept_part seen text r
   of_part a h w text body is e None none-fits =
       λ p fit same. let o = only p a h body fit (ap (λ v. opens a ∷ symbol h v ∷ body) (sym is) ∙ sym e ∙ same) in none-fits o.0 o.1 o.2
   of_part a h w text body is e (Some form) found =

@@ -5,7 +5,7 @@ use Rattle.std.proofs.ByRecursion.{All-map, All-push, All-weaker}
 use Rattle.std.proofs.lemmas.List.{length-map, length_push, get_or_append_left, get_or_push, get_or_default, take_more, take_all, map_push}
 use Rattle.std.proofs.lemmas.Bool.{cases_Bool, cond-true, cond-false, or_left, or_right, cases_lt, false≢true}
 use Rattle.entries.specs.declared.entry.Literal.{Literal}
-use Rattle.entries.specs.Clauses.{holds_literal, with as withOne, clause_from}
+use Rattle.entries.specs.Clauses.{holds_literal, with as with_one, clause_from}
 use Rattle.entries.specs.Equality.{same_literal}
 use Rattle.entries.specs.declared.entry.Term.{Term}
 use Rattle.entries.specs.Views.{NameView, TermView, term_of}
@@ -40,7 +40,7 @@ some_same p q P e [] w = refl
 some_same p q P e (x ∷ xs) w = ap (λ b. b || some p xs) (e x w.0) ∙ ap (λ b. q x || b) (some_same p q P e xs w.1)
 
 -- a repeat adds nothing
-some_with : (p : Literal → Bool) (c : List Literal) (l : Literal) → some p (withOne c l) ≡ (some p c || p l)
+some_with : (p : Literal → Bool) (c : List Literal) (l : Literal) → some p (with_one c l) ≡ (some p c || p l)
 some_with p c l = elim (cases_Bool (holds_literal c l)) [
   | inl e ↦
       let w = (holds_decides c l).0 e in
@@ -53,9 +53,9 @@ some_with p c l = elim (cases_Bool (holds_literal c l)) [
   | inr e ↦ ap (some p) (cond-false (holds_literal c l) _ _ e) ∙ some_append p c (l ∷ []) ∙ ap (λ b. some p c || b) (or_false (p l))
 ]
 
-some_from : (p : Literal → Bool) (ls c : List Literal) → some p (fold withOne c ls) ≡ (some p c || some p ls)
+some_from : (p : Literal → Bool) (ls c : List Literal) → some p (fold with_one c ls) ≡ (some p c || some p ls)
 some_from p [] c = sym (or_false (some p c))
-some_from p (l ∷ ls) c = some_from p ls (withOne c l) ∙ ap (λ b. b || some p ls) (some_with p c l) ∙ or_assoc (some p c) (p l) (some p ls)
+some_from p (l ∷ ls) c = some_from p ls (with_one c l) ∙ ap (λ b. b || some p ls) (some_with p c l) ∙ or_assoc (some p c) (p l) (some p ls)
 
 -- a clause has some literal exactly where it was written
 pub some_clause : (p : Literal → Bool) (ls : List Literal) → some p (clause_from ls) ≡ some p ls
@@ -75,39 +75,39 @@ clause_true_kept ρ terms more c w =
     some_same (literal_true ρ (terms ++ more)) (literal_true ρ terms) (λ (l : Literal). l.term < length terms) (literal_true_kept ρ terms more) c w
 
 -- ---- one more literal
-pub length_with : (c : List Literal) (l : Literal) → length (withOne c l) ≤ length c + 1
+pub length_with : (c : List Literal) (l : Literal) → length (with_one c l) ≤ length c + 1
 length_with c l = elim (cases_Bool (holds_literal c l)) [
   | inl e ↦ omega (arith, ap length (cond-true (holds_literal c l) c (c ++ l ∷ []) e))
   | inr e ↦ omega (arith, ap length (cond-false (holds_literal c l) c (c ++ l ∷ []) e), length_push c l)
 ]
 
-pub all_with : (P : Literal → Type 0) (c : List Literal) (l : Literal) → AllByRecursion P c → P l → AllByRecursion P (withOne c l)
+pub all_with : (P : Literal → Type 0) (c : List Literal) (l : Literal) → AllByRecursion P c → P l → AllByRecursion P (with_one c l)
 all_with P c l w h = elim (cases_Bool (holds_literal c l)) [
   | inl e ↦ subst (AllByRecursion P) (sym (cond-true (holds_literal c l) c (c ++ l ∷ []) e)) w
   | inr e ↦ subst (AllByRecursion P) (sym (cond-false (holds_literal c l) c (c ++ l ∷ []) e)) (All-push P c l w h)
 ]
 
-all_from : (P : Literal → Type 0) (ls c : List Literal) → AllByRecursion P c → AllByRecursion P ls → AllByRecursion P (fold withOne c ls)
+all_from : (P : Literal → Type 0) (ls c : List Literal) → AllByRecursion P c → AllByRecursion P ls → AllByRecursion P (fold with_one c ls)
 all_from P [] c w v = w
-all_from P (l ∷ ls) c w v = all_from P ls (withOne c l) (all_with P c l w v.0) v.1
+all_from P (l ∷ ls) c w v = all_from P ls (with_one c l) (all_with P c l w v.0) v.1
 
 pub all_clause : (P : Literal → Type 0) (ls : List Literal) → AllByRecursion P ls → AllByRecursion P (clause_from ls)
 all_clause P ls v = all_from P ls [] tt v
 
-folded_push : (ls : List Literal) (l : Literal) (c : List Literal) → fold withOne c (ls ++ l ∷ []) ≡ withOne (fold withOne c ls) l
+folded_push : (ls : List Literal) (l : Literal) (c : List Literal) → fold with_one c (ls ++ l ∷ []) ≡ with_one (fold with_one c ls) l
 folded_push [] l c = refl
-folded_push (m ∷ ls) l c = folded_push ls l (withOne c m)
+folded_push (m ∷ ls) l c = folded_push ls l (with_one c m)
 
 -- ---- a loop over written terms
 module _ (f : ℕ → Literal) (ns : List ℕ) where
   pub written_more : (i : ℕ) → i < length ns → (c d : List Literal) (l : Literal) → length c ≤ i → c ≡ clause_from (map f (take i ns)) →
-      l ≡ f (get_or ns i 0) → d ≡ withOne c l → (length d ≤ i + 1) × (d ≡ clause_from (map f (take (i + 1) ns)))
+      l ≡ f (get_or ns i 0) → d ≡ with_one c l → (length d ≤ i + 1) × (d ≡ clause_from (map f (take (i + 1) ns)))
   written_more i lt c d l few so_far is next =
       let long = length_with c l in
       let e : map f (take (i + 1) ns) ≡ map f (take i ns) ++ f (get_or ns i 0) ∷ [] = ap (map f) (take_more ns i 0 lt) ∙ map_push f (take i ns) (get_or ns i 0) in
-      let p : clause_from (map f (take (i + 1) ns)) ≡ withOne (clause_from (map f (take i ns))) (f (get_or ns i 0)) =
+      let p : clause_from (map f (take (i + 1) ns)) ≡ with_one (clause_from (map f (take i ns))) (f (get_or ns i 0)) =
       ap clause_from e ∙ folded_push (map f (take i ns)) (f (get_or ns i 0)) [] in
-      (omega (arith, ap length next), next ∙ ap (λ z. withOne z l) so_far ∙ ap (withOne (clause_from (map f (take i ns)))) is ∙ sym p)
+      (omega (arith, ap length next), next ∙ ap (λ z. with_one z l) so_far ∙ ap (with_one (clause_from (map f (take i ns)))) is ∙ sym p)
 
   pub written_all : (i : ℕ) → length ns ≤ i → (c : List Literal) → c ≡ clause_from (map f (take i ns)) → c ≡ clause_from (map f ns)
   written_all i le c e = e ∙ ap (λ z. clause_from (map f z)) (take_all i ns le)
@@ -150,15 +150,15 @@ once_push c l new once i j d lt h e =
     false≢true (sym new ∙ (holds_decides c l).1 (i, b, λ f. get_or_default c i f d b ∙ is)))
     (cases_lt j (length c))
 
-once_with : (c : List Literal) (l : Literal) → Once c → Once (withOne c l)
+once_with : (c : List Literal) (l : Literal) → Once c → Once (with_one c l)
 once_with c l once = elim (cases_Bool (holds_literal c l)) [
   | inl e ↦ subst Once (sym (cond-true (holds_literal c l) c (c ++ l ∷ []) e)) once
   | inr e ↦ subst Once (sym (cond-false (holds_literal c l) c (c ++ l ∷ []) e)) (once_push c l e once)
 ]
 
-once_from : (ls c : List Literal) → Once c → Once (fold withOne c ls)
+once_from : (ls c : List Literal) → Once c → Once (fold with_one c ls)
 once_from [] c once = once
-once_from (l ∷ ls) c once = once_from ls (withOne c l) (once_with c l once)
+once_from (l ∷ ls) c once = once_from ls (with_one c l) (once_with c l once)
 
 pub clauses_written : ClausesWritten
 clauses_written ls = record {

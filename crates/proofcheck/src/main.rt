@@ -105,7 +105,7 @@ fn answer(rt: &HostRuntime) -> Result<(), Failure> {
     run(rt, list, problem.as_str(), proof.as_str())
 }
 
-/// What went wrong has been printed when the status is 1.
+/// The status is 0 where all is well, and 1 otherwise; nothing more is printed here.
 fn main(rt: HostRuntime) -> ExitCode {
     match answer(&rt) {
         Ok(()) => ExitCode::SUCCESS,

@@ -3,7 +3,7 @@ ghost use Rattle.std.specs.Prelude.{◌≡◌, ◌<◌, map, length, replicate};
 ghost use Rattle.entries.specs.Equality.{same_sort};
 ghost use Rattle.entries.specs.Views.{views_of};
 ghost use Rattle.meaning.specs.Proper.{sort_at};
-ghost use Rattle.meaning.specs.Sorts.{all, many as severalOf, twins, same_sorts};
+ghost use Rattle.meaning.specs.Sorts.{all, many as several_of, twins, same_sorts};
 ghost use Rattle.sorting.specs.Within.{Within};
 
 use entries::{Sort, Term};
@@ -48,7 +48,7 @@ pub fn exactly(terms: &[Term], args: &[u16], count: usize, sort: Sort) -> bool
 /// Whether there are two arguments or more, each of the sort `sort`.
 pub fn several(terms: &[Term], args: &[u16], sort: Sort) -> bool
     requires { Within terms.now args.now }
-    ensures { result ≡ severalOf sort (map (sort_at (views_of terms.now)) args.now) }
+    ensures { result ≡ several_of sort (map (sort_at (views_of terms.now)) args.now) }
 {
     args.len() >= 2 && all_of(terms, args, sort)
 }
