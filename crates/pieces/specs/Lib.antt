@@ -2,3 +2,4 @@ pub mod Pieces
 pub mod Cutting
 pub mod Positions
 pub mod Laws
+pub mod Counted

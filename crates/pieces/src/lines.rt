@@ -35,8 +35,10 @@ fn count_on(text: &[u8], near: Position, at: usize) -> Position
 }
 
 impl<'a> Lines<'a> {
+    ghost use Rattle.pieces.specs.Counted.{text_of};
+
     pub fn new(text: &'a [u8]) -> Lines<'a>
-        ensures { result.text.now ≡ text.now }
+        ensures { text_of result ≡ text.now }
     {
         Lines {
             text,
@@ -47,7 +49,7 @@ impl<'a> Lines<'a> {
     /// The last position, or the start where that is behind `at`.
     fn nearest(&self, at: usize) -> Position
         ensures low { result.at ≤ at }
-        ensures placed { result ≡ position_of self.now.text.now result.at }
+        ensures placed { result ≡ position_of (text_of self.now) result.at }
     {
         if self.last.at <= at {
             self.last
@@ -58,8 +60,8 @@ impl<'a> Lines<'a> {
 
     /// The position of the place `at`. Behind the end it has the line and column of the end.
     pub fn position(&mut self, at: usize) -> Position
-        ensures value { result ≡ position_of self.old.text.now at }
-        ensures same { self.new.text.now ≡ self.old.text.now }
+        ensures value { result ≡ position_of (text_of self.old) at }
+        ensures same { text_of self.new ≡ text_of self.old }
     {
         let place = count_on(self.text, self.nearest(at), at);
         self.last = place;
