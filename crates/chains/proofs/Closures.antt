@@ -14,7 +14,8 @@ use Rattle.chains.specs.Chain.Derived.{denied, forced}
 use Rattle.chains.specs.Closure.{forces, literals_in, fresh, after, enough, closure, clashes, is_empty}
 use Rattle.chains.specs.Laws.{Saturated, ClosureIsLeast, ChainsDecided}
 use Rattle.chains.specs.Derives.{closure_derived, refutes_sound}
-use Rattle.chains.specs.Members.{complement_twice, has_none, has_first, has_cases, has_joined, has_some, has_every, has_kept, kept_has, has_complements, holds_has, has_holds}
+use Rattle.referee.proofs.Members.{has_none, has_first, has_cases, has_joined, has_some, has_every, has_kept, kept_has}
+use Rattle.chains.specs.Members.{complement_twice, has_complements, holds_has, has_holds}
 
 -- ---- a set with nothing fresh is closed
 abbrev Closed : List (List Literal) → List Literal → Type 0

@@ -12,7 +12,8 @@ use Rattle.meaning.specs.Truth.{positive}
 use Rattle.chains.specs.Chain.{Derived, Refutes}
 use Rattle.chains.specs.Chain.Derived.{denied, forced}
 use Rattle.chains.specs.Sets.{place_at, Placed, Holds, AllOut, ButOne, ButTwo, Sound, Consistent, missing, ClosedAt, Onward, Seeds}
-use Rattle.chains.specs.Members.{complement_twice, complement_own, complement_turn, same_or_not, has_first, has_cases}
+use Rattle.referee.proofs.Members.{has_first, has_cases}
+use Rattle.chains.specs.Members.{complement_twice, complement_own, complement_turn, same_or_not}
 
 -- ---- places
 abbrev pub place_of : Literal → ℕ

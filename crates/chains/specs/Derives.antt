@@ -11,7 +11,8 @@ use Rattle.meaning.specs.Values.{some, every}
 use Rattle.chains.specs.Chain.{Derived, Refutes}
 use Rattle.chains.specs.Chain.Derived.{denied, forced}
 use Rattle.chains.specs.Closure.{forces, literals_in, fresh, after, enough, closure, clashes, is_empty, refutes}
-use Rattle.chains.specs.Members.{has_append_cases, some_has, every_has, kept_has, complements_has, holds_has}
+use Rattle.referee.proofs.Members.{has_append_cases, some_has, every_has, kept_has}
+use Rattle.chains.specs.Members.{complements_has, holds_has}
 
 module _ (clause : List Literal) (premises : List (List Literal)) where
   abbrev AllDerived : List Literal → Type 0

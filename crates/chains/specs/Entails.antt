@@ -1,23 +1,20 @@
 -- The law of chains: what follows from true clauses is true.
-use Rattle.std.specs.Prelude.{◌≡◌, ℕ, Bool, true, false, not, List, [], ◌≢◌, refl}
+use Rattle.std.specs.Prelude.{◌≡◌, ℕ, Bool, true, false, not, List, [], ◌≢◌}
 use Rattle.std.proofs.Common.{inl, inr, sym, ap, ◌∙◌}
 use Rattle.std.proofs.lemmas.Bool.{cases_Bool, both_ways, not-false, false≢true}
 use Rattle.entries.specs.declared.entry.Literal.{Literal}
 use Rattle.entries.specs.Clauses.{complement_of}
 use Rattle.meaning.specs.Truth.{signed}
 use Rattle.meaning.specs.Values.{every}
+use Rattle.meaning.proofs.Literals.{signed_not}
 use Rattle.chains.specs.Chain.{Derived, Refutes}
 use Rattle.chains.specs.Chain.Derived.{denied, forced}
 use Rattle.chains.specs.Laws.{true_under, ChainLaw}
-use Rattle.chains.specs.Members.{same_or_not, some_has, some_not, every_has}
+use Rattle.referee.proofs.Members.{some_has, some_not, every_has}
+use Rattle.chains.specs.Members.{same_or_not}
 
 abbrev holds : (ℕ → Bool) → Literal → Bool
 holds truth l = signed l.negative (truth l.term)
-
-signed_not : (b v : Bool) → signed (not b) v ≡ not (signed b v)
-signed_not true true = refl
-signed_not true false = refl
-signed_not false v = refl
 
 module _ (truth : ℕ → Bool) where
   complement_holds : (l : Literal) → holds truth (complement_of l) ≡ not (holds truth l)

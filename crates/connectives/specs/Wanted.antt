@@ -1,5 +1,5 @@
 -- What a piece's terms are looked at for is what its literals are.
-use Rattle.std.specs.Prelude.{◌≡◌, ℕ, ◌<◌, Bool, true, false, ◌&&◌, ◌||◌, List, [], ◌∷◌, length, drop, refl}
+use Rattle.std.specs.Prelude.{◌≡◌, ℕ, ◌<◌, Bool, true, false, ◌&&◌, List, length, drop}
 use Rattle.std.proofs.Common.{sym, ap, ◌∙◌, subst, arith}
 use Rattle.std.specs.List.{AllByRecursion}
 use Rattle.std.proofs.ByRecursion.{All-take, All-drop, All-weaker}
@@ -14,15 +14,12 @@ use Rattle.meaning.specs.Proper.{Formed, term_at}
 use Rattle.meaning.specs.Truth.{literal_of}
 use Rattle.meaning.specs.Values.{some, every}
 use Rattle.meaning.proofs.Values.{some_map, every_map}
+use Rattle.meaning.proofs.Clauses.{holds_some}
 use Rattle.referee.proofs.Scans.{some_joined, every_joined}
 use Rattle.connectives.specs.declared.table.Part.{Part}
 use Rattle.connectives.specs.declared.table.Part.TheVariants as part
 use Rattle.connectives.specs.declared.table.Piece.{Piece}
 use Rattle.connectives.specs.Rules.{stands_for, turned_by, piece_literals, clause_by}
-
-pub holds_some : (c : List Literal) (l : Literal) → holds_literal c l ≡ some (λ m. same_literal m l) c
-holds_some [] l = refl
-holds_some (m ∷ c) l = ap (λ b. same_literal m l || b) (holds_some c l)
 
 pub and_by : (x y b : Bool) → true ≡ x → b ≡ y → b ≡ (x && y)
 and_by true y b e f = f

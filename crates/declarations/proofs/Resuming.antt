@@ -1,21 +1,14 @@
 -- A reader that begins at the place of a token of a text gives that token and those after it.
-use Rattle.std.proofs.Common.{◌≡◌, ℕ, zero, suc, ◌+◌, List, [], ◌∷◌, ◌++◌, map, drop, sym, refl, ap, ◌∙◌, add-zero, arith}
+use Rattle.std.proofs.Common.{◌≡◌, ℕ, zero, suc, ◌+◌, List, [], ◌∷◌, ◌++◌, map, drop, sym, refl, ap, ◌∙◌}
 use Rattle.std.proofs.lemmas.List.{drop-drop}
 use Rattle.std.proofs.lemmas.Bool.{cond_both}
 use Rattle.text.specs.Bytes.{is_blank, is_semicolon}
 use Rattle.text.specs.Parts.{Part, Reach, parts, parts_from}
 use Rattle.text.specs.Tokens.{Tok, place, token_of, lexeme, tokens_from}
+use Rattle.text.proofs.Cuts.{past_drop}
 use Rattle.text.proofs.Laying.{rest_at}
 use Rattle.text.proofs.Lexing.{resumed}
 use Rattle.text.proofs.Places.{off}
-
-past_drop : (reach : Reach) (n at : ℕ) (bs : List ℕ) → parts reach n at bs ≡ parts reach 0 (at + n) (drop n bs)
-unfolding parts
-past_drop reach zero at [] = refl
-past_drop reach zero at (b ∷ bs) = ap (λ a. parts reach 0 a (b ∷ bs)) (sym (add-zero at))
-past_drop reach (suc n) at [] = refl
-past_drop reach (suc n) at (b ∷ bs) =
-    let same : at + 1 + n ≡ at + suc n = omega arith in past_drop reach n (at + 1) bs ∙ ap (λ a. parts reach 0 a (drop n bs)) same
 
 -- the parts after n bytes are those from a place on
 placed : (reach : Reach) (text : List ℕ) (n at : ℕ) (bs : List ℕ) → drop at text ≡ bs → parts_from reach text (at + n) ≡ parts reach n at bs

@@ -97,13 +97,13 @@ same_term_decides t u = (
 )
 
 -- ---- literals
-same_sign_lem : (a b : Bool) → same_sign a b ≡ true → a ≡ b
+pub same_sign_lem : (a b : Bool) → same_sign a b ≡ true → a ≡ b
 same_sign_lem true true t = refl
 same_sign_lem true false t = absurd (false≢true t)
 same_sign_lem false true t = absurd (false≢true t)
 same_sign_lem false false t = refl
 
-own_sign : (a : Bool) → same_sign a a ≡ true
+pub own_sign : (a : Bool) → same_sign a a ≡ true
 own_sign true = refl
 own_sign false = refl
 

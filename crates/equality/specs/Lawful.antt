@@ -21,7 +21,7 @@ use Rattle.equality.specs.Names.{rule_named}
 use Rattle.equality.specs.Rules.{pairs}
 use Rattle.equality.specs.Words.{Equates, Says, Ends, Chain, args_at, IsReflexive, IsTransitive, IsCongruent, IsJoined, IsApplied, Meets, is_yes}
 use Rattle.equality.specs.Keeping.{yes_to_kept}
-use Rattle.equality.specs.Members.{has_first, has_later, has_some, has_every, has_no, some_has}
+use Rattle.referee.proofs.Members.{has_first, has_on, has_some, every_has, some_not, some_has}
 
 not_is_false : (b : Bool) → not b ≡ false → b ≡ true
 not_is_false true e = refl
@@ -34,7 +34,7 @@ map_pairs f [] (t ∷ ts) e g = absurd (omega arith)
 map_pairs f (s ∷ ss) [] e g = absurd (omega arith)
 map_pairs f (s ∷ ss) (t ∷ ts) e g =
     let first = g (record { left = s; right = t }) (has_first (record { left = s; right = t }) (pairs ss ts)) in
-    let rest = map_pairs f ss ts (omega arith) (λ p h. g p (has_later (record { left = s; right = t }) p (pairs ss ts) h)) in
+    let rest = map_pairs f ss ts (omega arith) (λ p h. g p (has_on (record { left = s; right = t }) (pairs ss ts) p h)) in
     ap (λ v. v ∷ map f ss) first ∙ ap (λ vs. f t ∷ vs) rest
 
 module _ (ρ : Reading) (names : List NameView) (terms : List TermView) (ok : Proper names terms) where
@@ -107,7 +107,7 @@ module _ (ρ : Reading) (names : List NameView) (terms : List TermView) (ok : Pr
   chain_equal s [] t g e = ap (value_of ρ terms) e
   chain_equal s (l ∷ ls) t g w =
       let here = g l (has_first l ls) in
-      false_equal l s w.0 w.1 here.0 here.1 ∙ chain_equal w.0 ls t (λ m h. g m (has_later l m ls h)) w.2
+      false_equal l s w.0 w.1 here.0 here.1 ∙ chain_equal w.0 ls t (λ m h. g m (has_on l ls m h)) w.2
 
 -- ---- the rules
 module _ (names : List NameView) (q : Asked) (ok : Proper names q.terms) (posed : Posed q) where
@@ -120,7 +120,7 @@ module _ (names : List NameView) (q : Asked) (ok : Proper names q.terms) (posed 
       (λ e. chain_equal ρ names q.terms ok w.s w.links w.t
       (λ l h.
       let there = has_before ρ names q.terms ok q.clause w.links w.s w.t w.ends posed.clause l h in
-      (all-has (Among q.terms) q.clause l posed.clause there, has_no (literal_true ρ q.terms) q.clause l e there))
+      (all-has (Among q.terms) q.clause l posed.clause there, some_not (literal_true ρ q.terms) q.clause e l there))
       w.chain)
 
   congruent_entailed : IsCongruent q → Entailed names q
@@ -135,19 +135,19 @@ module _ (names : List NameView) (q : Asked) (ok : Proper names q.terms) (posed 
         | inr found ↦
             false_equal ρ names q.terms ok found.0 p.left p.right found.2
             (all-has (Among q.terms) q.clause found.0 posed.clause found.1)
-            (has_no (literal_true ρ q.terms) q.clause found.0 e found.1)
+            (some_not (literal_true ρ q.terms) q.clause e found.0 found.1)
       ]))
 
   -- a premise that is an equality gives its sides one value
   premise_equal : (ρ : Reading) → every (clause_true ρ q.terms) q.premises ≡ true → (c : List Literal) (s t : ℕ) → Has q.premises c → Says q.terms c s t →
       value_of ρ q.terms s ≡ value_of ρ q.terms t
   premise_equal ρ premises c s t h w =
-      said_equal ρ names q.terms ok c s t w (all-has (AllByRecursion (Among q.terms)) q.premises c posed.premises h) (has_every (clause_true ρ q.terms) q.premises c premises h)
+      said_equal ρ names q.terms ok c s t w (all-has (AllByRecursion (Among q.terms)) q.premises c posed.premises h) (every_has (clause_true ρ q.terms) q.premises premises c h)
 
   joined_entailed : IsJoined q → Entailed names q
   joined_entailed w ρ fits premises =
       let first = subst (λ ps. Has ps w.first) (sym w.both) (has_first w.first (w.second ∷ [])) in
-      let second = subst (λ ps. Has ps w.second) (sym w.both) (has_later w.first w.second (w.second ∷ []) (has_first w.second [])) in
+      let second = subst (λ ps. Has ps w.second) (sym w.both) (has_on w.first (w.second ∷ []) w.second (has_first w.second [])) in
       equal_said ρ names q.terms ok q.clause w.r w.t w.clause posed.clause
       (premise_equal ρ premises w.first w.r w.s first w.begins ∙ premise_equal ρ premises w.second w.s w.t second w.goes_on)
 

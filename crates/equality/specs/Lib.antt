@@ -10,5 +10,4 @@ pub mod Keeping
 pub mod Tested
 pub mod Ended
 pub mod Sided
-pub mod Members
 pub mod Frees

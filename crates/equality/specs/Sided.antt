@@ -7,13 +7,13 @@ use Rattle.entries.specs.declared.entry.Head.TheVariants as head
 use Rattle.entries.specs.declared.entry.Literal.{Literal}
 use Rattle.entries.specs.Equality.{same_kind, same_sign, same_literal}
 use Rattle.entries.specs.Views.{TermView}
-use Rattle.entries.proofs.Alike.{head_of_kind, kind_of_head, same_literal_decides}
+use Rattle.entries.proofs.Alike.{head_of_kind, kind_of_head, same_literal_decides, same_sign_lem, own_sign}
 use Rattle.meaning.specs.Proper.{term_at}
 use Rattle.meaning.specs.Values.{every}
 use Rattle.equality.specs.declared.sides.Sides.{Sides}
 use Rattle.equality.specs.Sides.{two_of, sides_of, equated, only_of, positive_of, lone, such, is_sides}
 use Rattle.equality.specs.Words.{Equates, Says}
-use Rattle.equality.specs.Members.{has_none, has_first, has_every, every_has}
+use Rattle.referee.proofs.Members.{has_none, has_first, every_has, has_every}
 
 -- ---- something or nothing
 none_some : {X R : Type 0} (x : X) → ◌≡◌ {A = Option X} None (Some x) → R
@@ -56,16 +56,6 @@ is_sides_of o p is =
     (and_from _ _ (eq-eqb p.left p.left refl) (eq-eqb p.right p.right refl))
 
 -- ---- the sides of a literal
-same_sign_lem : (a b : Bool) → same_sign a b ≡ true → a ≡ b
-same_sign_lem true true t = refl
-same_sign_lem true false t = absurd (false≢true t)
-same_sign_lem false true t = absurd (false≢true t)
-same_sign_lem false false t = refl
-
-own_sign : (a : Bool) → same_sign a a ≡ true
-own_sign true = refl
-own_sign false = refl
-
 two_by : (ns : List ℕ) (e : Sides) → two_of ns ≡ Some e → ns ≡ e.left ∷ e.right ∷ []
 two_by [] e is = none_some e is
 two_by (s ∷ []) e is = none_some e is
@@ -99,13 +89,13 @@ only_by [] l is = none_some l is
 only_by (k ∷ ks) l is =
     let w = cond_some (every (same_literal k) (k ∷ ks)) (Some k) l is in
     let same = some_same k l w.1 in
-    (subst (Has (k ∷ ks)) same (has_first k ks), λ m h. sym ((same_literal_decides k m).0 (has_every (same_literal k) (k ∷ ks) m w.0 h)) ∙ same)
+    (subst (Has (k ∷ ks)) same (has_first k ks), λ m h. sym ((same_literal_decides k m).0 (every_has (same_literal k) (k ∷ ks) w.0 m h)) ∙ same)
 
 only_of_lem : (c : List Literal) (l : Literal) → Has c l → ((m : Literal) → Has c m → m ≡ l) → only_of c ≡ Some l
 only_of_lem [] l h alone = absurd (has_none l h)
 only_of_lem (k ∷ ks) l h alone =
     let same = alone k (has_first k ks) in
-    ap (λ b. cond b (Some k) None) (every_has (same_literal k) (k ∷ ks) (λ m g. (same_literal_decides k m).1 (same ∙ sym (alone m g))))
+    ap (λ b. cond b (Some k) None) (has_every (same_literal k) (k ∷ ks) (λ m g. (same_literal_decides k m).1 (same ∙ sym (alone m g))))
     ∙ ap Some same
 
 module _ (terms : List TermView) where

@@ -20,7 +20,7 @@ use Rattle.equality.specs.Sides.{equated, lone, is_sides}
 use Rattle.equality.specs.Words.{Equates, Says, args_at, IsReflexive, IsTransitive, IsCongruent, IsJoined, IsApplied, RulesTested}
 use Rattle.equality.specs.Ended.{ends_by, ends_of, ends_front, leads_by, leads_of}
 use Rattle.equality.specs.Frees.{none_decides}
-use Rattle.equality.specs.Members.{some_has, has_some, has_every, every_has}
+use Rattle.referee.proofs.Members.{some_has, has_some, every_has, has_every}
 use Rattle.equality.specs.Sided.{is_some_by, such_by, such_of, is_sides_by, is_sides_of, equated_by, equated_of, lone_by, lone_of}
 
 abbrev sides : ℕ → ℕ → Sides
@@ -115,9 +115,9 @@ congruent_by_lem q e =
       name = number_of (term_at terms s).head;
       names = (first, sym ((same_head_decides (term_at terms s).head (term_at terms t).head).0 named.1) ∙ first);
       as_many = eqb-true (length (args_at terms s)) (length (args_at terms t)) two.0;
-      settled = λ p h. settled_by terms c p (has_every (settled terms c) ps p three.0 h);
+      settled = λ p h. settled_by terms c p (every_has (settled terms c) ps three.0 p h);
       only_pairs = λ l h.
-          let found = some_has (λ p. negates terms p l) ps (has_every (λ m. some (λ p. negates terms p m) ps) (front c) l three.1 h) in
+          let found = some_has (λ p. negates terms p l) ps (every_has (λ m. some (λ p. negates terms p m) ps) (front c) three.1 l h) in
           (found.0, found.1, negates_by terms found.0 l found.2);
     }
 
@@ -135,9 +135,9 @@ congruent_of q w =
     (and_from _ _ (kind_of_head (term_at terms s).head (head.Declared w.name) w.names.0)
     ((same_head_decides (term_at terms s).head (term_at terms t).head).1 (w.names.0 ∙ sym w.names.1)))
     (and_from _ _ (eq-eqb (length (args_at terms s)) (length (args_at terms t)) w.as_many)
-    (and_from _ _ (every_has (settled terms c) ps (λ p h. settled_of terms c p (w.settled p h)))
+    (and_from _ _ (has_every (settled terms c) ps (λ p h. settled_of terms c p (w.settled p h)))
     (subst (λ ls. every (λ m. some (λ p. negates terms p m) ps) ls ≡ true) same
-    (every_has (λ m. some (λ p. negates terms p m) ps) w.before (λ l h.
+    (has_every (λ m. some (λ p. negates terms p m) ps) w.before (λ l h.
     let found = w.only_pairs l h in
     has_some (λ p. negates terms p l) ps found.0 found.1 (negates_of terms found.0 l found.2))))))))
 
@@ -213,9 +213,9 @@ applied_by_lem q e =
       operation = headed.0;
       heads = (same_head_decides (term_at terms s).head (term_at terms t).head).0 headed.1;
       as_many = eqb-true (length (args_at terms s)) (length (args_at terms t)) two.0;
-      granted = λ p h. granted_by terms q.premises p (has_every (granted terms q.premises) ps p three.0 h);
+      granted = λ p h. granted_by terms q.premises p (every_has (granted terms q.premises) ps three.0 p h);
       equalities = λ c h.
-          let d = is_some_by (lone terms c) (has_every (λ k. is_some (lone terms k)) q.premises c three.1 h) in
+          let d = is_some_by (lone terms c) (every_has (λ k. is_some (lone terms k)) q.premises three.1 c h) in
           (d.0.left, d.0.right, lone_by terms c d.0 d.1);
     }
 
@@ -228,8 +228,8 @@ applied_of q w =
     such_of (lone terms q.clause) (applied_at terms q.premises) (sides s t) (lone_of terms q.clause s t w.clause)
     (and_from _ _ (and_from _ _ w.operation ((same_head_decides (term_at terms s).head (term_at terms t).head).1 w.heads))
     (and_from _ _ (eq-eqb (length (args_at terms s)) (length (args_at terms t)) w.as_many)
-    (and_from _ _ (every_has (granted terms q.premises) ps (λ p h. granted_of terms q.premises p (w.granted p h)))
-    (every_has (λ k. is_some (lone terms k)) q.premises (λ c h. let d = w.equalities c h in ap is_some (lone_of terms c d.0 d.1 d.2))))))
+    (and_from _ _ (has_every (granted terms q.premises) ps (λ p h. granted_of terms q.premises p (w.granted p h)))
+    (has_every (λ k. is_some (lone terms k)) q.premises (λ c h. let d = w.equalities c h in ap is_some (lone_of terms c d.0 d.1 d.2))))))
 
 pub rules_tested : RulesTested
 rules_tested Reflexive q = (reflexive_by q, reflexive_of q)

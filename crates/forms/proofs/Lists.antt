@@ -46,7 +46,7 @@ mutual
   shorter (number a v) rest = omega arith
   shorter (call a h w ts z) rest = omega (arith, shorter_all ts (closes z ∷ rest))
 
-  shorter_all : (ts : Trees) (rest : List Tok) → length rest ≤ length (spells ts rest)
+  pub shorter_all : (ts : Trees) (rest : List Tok) → length rest ≤ length (spells ts rest)
   shorter_all none rest = omega arith
   shorter_all (more t ts) rest = omega (arith, shorter t (spells ts rest), shorter_all ts rest)
 

@@ -130,7 +130,7 @@ clause_within ts ns c formed w e =
     (All-weaker (λ n. n < length ts) (λ n. (f n).term < length ts) (λ n h. omega (arith, literal_within formed.0 (map term_of ts) formed.1 n (omega arith))) ns w)))
 
 -- ---- a clause has the literals that were written, each of them once
-holds_some : (c : List Literal) (l : Literal) → holds_literal c l ≡ some (λ m. same_literal m l) c
+pub holds_some : (c : List Literal) (l : Literal) → holds_literal c l ≡ some (λ m. same_literal m l) c
 holds_some [] l = refl
 holds_some (m ∷ c) l = ap (λ b. same_literal m l || b) (holds_some c l)
 

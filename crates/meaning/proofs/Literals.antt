@@ -41,7 +41,7 @@ module _ (names : List NameView) (terms : List TermView) (ok : Proper names term
   literal_own e = literal_at ∙ cond-false _ _ _ e
 
 -- ---- a literal is true exactly where its term is
-signed_not : (b v : Bool) → signed (not b) v ≡ not (signed b v)
+pub signed_not : (b v : Bool) → signed (not b) v ≡ not (signed b v)
 signed_not true true = refl
 signed_not true false = refl
 signed_not false v = refl

@@ -1,4 +1,5 @@
 pub mod Samples
 pub mod Scans
+pub mod Members
 pub mod Finds
 pub mod Worked

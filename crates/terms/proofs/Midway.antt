@@ -7,6 +7,7 @@ use Rattle.text.specs.declared.token.Token.TheVariants as token
 use Rattle.forms.specs.Takes.{NoToken}
 use Rattle.forms.specs.Trees.{Tree, name, number, call, Trees, none, more, count, spell, spells, Fits}
 use Rattle.forms.specs.declared.item.Item.TheVariants.{Term}
+use Rattle.forms.proofs.Lists.{shorter_all}
 use Rattle.forms.proofs.Spelling.{off, not_close, same_tree, same_trees}
 use Rattle.entries.specs.Views.{NameView, TermView}
 use Rattle.declarations.specs.declared.fault.TermFault.{TermFault}
@@ -63,15 +64,10 @@ midway_start names most text old b = record {
 }
 
 -- a term is not empty, so what follows it is shorter
-mutual
-  shorter : (t : Tree) (rest : List Tok) → length rest < length (spell t rest)
-  shorter (name a w) rest = omega arith
-  shorter (number a v) rest = omega arith
-  shorter (call a h w ts z) rest = omega (arith, shorter_all ts (closes z ∷ rest))
-
-  shorter_all : (ts : Trees) (rest : List Tok) → length rest ≤ length (spells ts rest)
-  shorter_all none rest = omega arith
-  shorter_all (more t ts) rest = omega (arith, shorter t (spells ts rest), shorter_all ts rest)
+shorter : (t : Tree) (rest : List Tok) → length rest < length (spell t rest)
+shorter (name a w) rest = omega arith
+shorter (number a v) rest = omega arith
+shorter (call a h w ts z) rest = omega (arith, shorter_all ts (closes z ∷ rest))
 
 -- two tokens that are one, of which one is no closing bracket
 closes_only : (k : Token) → ((a : ℕ) → k ≡ token.Close a → ⊥) → (after rest : List Tok) (end : ℕ) → seen k ∷ after ≡ closes end ∷ rest → ⊥

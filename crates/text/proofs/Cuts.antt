@@ -8,7 +8,8 @@ use Rattle.text.specs.declared.bytes.Kind.TheVariants.{Blank, Comment}
 use Rattle.text.proofs.Classes.{blank_from_kind, comment_from_kind}
 use Rattle.text.specs.Parts.{Part, Reach, parts, parts_from, Skips}
 
-past_drop : (reach : Reach) (n at : ℕ) (bs : List ℕ) → parts reach n at bs ≡ parts reach 0 (at + n) (drop n bs)
+-- the parts that are left after n bytes, by what is left of the text
+pub past_drop : (reach : Reach) (n at : ℕ) (bs : List ℕ) → parts reach n at bs ≡ parts reach 0 (at + n) (drop n bs)
 unfolding parts
 past_drop reach zero at [] = refl
 past_drop reach zero at (b ∷ bs) = ap (λ a. parts reach 0 a (b ∷ bs)) (sym (add-zero at))

@@ -1,9 +1,9 @@
 -- A text is laid out by its parts.
-use Rattle.std.proofs.Common.{◌≡◌, ℕ, zero, suc, ◌+◌, ◌-◌, ◌<◌, ◌≤◌, Bool, true, false, cond, not, List, [], ◌∷◌, length, get_or, take, drop, sym, refl, ap, ◌∙◌, inl, inr, ⊎_elim, add-zero, one-add, arith, length-take-le, get_or-drop}
+use Rattle.std.proofs.Common.{◌≡◌, ℕ, zero, suc, ◌+◌, ◌-◌, ◌<◌, ◌≤◌, Bool, true, false, cond, List, [], ◌∷◌, length, get_or, take, drop, sym, refl, ap, ◌∙◌, inl, inr, ⊎_elim, add-zero, one-add, arith, length-take-le, get_or-drop}
 use Rattle.std.specs.List.{prefix_len}
 use Rattle.std.proofs.lemmas.List.{drop-drop}
 use Rattle.std.proofs.lemmas.List.Sums.{prefix_len-le-length}
-use Rattle.std.proofs.lemmas.Bool.{cases_lt, cases_eq, cond_both}
+use Rattle.std.proofs.lemmas.Bool.{cases_lt, cases_eq, cond_both, not-true}
 use Rattle.std.proofs.lemmas.Bool.Decides.{nat_tests}
 use Rattle.text.specs.Bytes.{is_blank, is_semicolon, in_line, ends_line}
 use Rattle.text.specs.Parts.{Part, Reach, parts, parts_from}
@@ -25,14 +25,6 @@ leading_stops p [] end = end (omega arith)
 leading_stops p (x ∷ xs) end =
     cond_both (p x) (1 + prefix_len p xs) 0 (λ n. (suc (length xs) ≤ n → p 0 ≡ false) → p (get_or (x ∷ xs) n 0) ≡ false)
     (λ _ last. rw one-add (leading_stops p xs (λ le. last (omega arith)))) (λ e _. e) end
-
-pub not-true : (v : Bool) → not v ≡ true → v ≡ false
-not-true true e = sym e
-not-true false e = refl
-
-pub not-false : (v : Bool) → not v ≡ false → v ≡ true
-not-false true e = refl
-not-false false e = sym e
 
 joined_gaps : (text : List ℕ) (i j k : ℕ) → Gap text i j → Gap text j k → Gap text i k
 joined_gaps text i j k g h = record {

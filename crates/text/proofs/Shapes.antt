@@ -4,7 +4,7 @@ use Rattle.std.specs.List.{prefix_len, AllByRecursion}
 use Rattle.std.proofs.ByRecursion.{All-from_get_or}
 use Rattle.std.proofs.lemmas.List.{get_or-take}
 use Rattle.std.proofs.lemmas.List.Sums.{prefix_len-le-length}
-use Rattle.std.proofs.lemmas.Bool.{cases_lt, cases_eq, cond_both}
+use Rattle.std.proofs.lemmas.Bool.{cases_lt, cases_eq, cond_both, not-false}
 use Rattle.std.proofs.lemmas.Bool.Decides.{nat_tests}
 use Rattle.text.specs.Bytes.{is_name, is_blank, is_semicolon, in_line, ends_line, kind}
 use Rattle.text.specs.Parts.{parts, parts_from}
@@ -12,7 +12,7 @@ use Rattle.text.specs.Tokens.{begins, lexeme}
 use Rattle.text.specs.Layout.{InComment, Shape, bracket, run, colon, stray, Lexeme, Lexed}
 use Rattle.text.specs.declared.bytes.Kind.{Kind}
 use Rattle.text.specs.declared.bytes.Kind.TheVariants.{Blank, Comment, Open, Close, Colon, Digit, Initial, Other}
-use Rattle.text.proofs.Laying.{leading_passes, leading_stops, not-false, byte_at, rest_at, byte_after, laid}
+use Rattle.text.proofs.Laying.{leading_passes, leading_stops, byte_at, rest_at, byte_after, laid}
 
 -- no comment that began before a place goes on there
 Outside : List ℕ → ℕ → Type 0
