@@ -1,5 +1,5 @@
--- The faults of a command: their numbers, places and layers.
-use Rattle.std.specs.Prelude.{ℕ}
+-- The faults of a command: their numbers, places, layers and words.
+use Rattle.std.specs.Prelude.{ℕ, List, codes}
 use Rattle.text.specs.Tokens as token
 use Rattle.forms.specs.Faults as form
 use Rattle.commands.specs.declared.fault.Fault.{Fault}
@@ -21,3 +21,13 @@ place_of (Form f) = form.place_of f
 abbrev pub layer_of : Fault → Layer
 layer_of (Token f) = layer.Tokens
 layer_of (Form f) = layer.Form
+
+-- What people read of a fault.
+abbrev pub message_of : Fault → List ℕ
+message_of (Token f) = token.message_of f
+message_of (Form f) = form.message_of f
+
+-- The name of a layer.
+abbrev pub name_of : Layer → List ℕ
+name_of layer.Tokens = codes "tokens"
+name_of layer.Form = codes "form"

@@ -1,6 +1,6 @@
 //! What can be wrong with a command, in each of the layers.
-ghost use Rattle.std.specs.Prelude.{◌≡◌};
-ghost use Rattle.commands.specs.Faults.{number_of, place_of, layer_of};
+ghost use Rattle.std.specs.Prelude.{◌≡◌, Some};
+ghost use Rattle.commands.specs.Faults.{number_of, place_of, layer_of, message_of, name_of};
 ghost use Rattle.commands.specs.declared.fault.Fault.TheVariants.{Token, Form};
 
 use forms::FormFault;
@@ -15,6 +15,8 @@ pub enum Layer {
 }
 
 impl fmt::Display for Layer {
+    ghost output = { λ l. Some (name_of l) };
+
     fn fmt<W: fmt::Write>(&self, f: &mut fmt::Formatter<W>) -> fmt::Result {
         match *self {
             Layer::Tokens => f.write_str("tokens"),
@@ -80,6 +82,8 @@ impl Fault {
 
 /// The words that people see.
 impl fmt::Display for Fault {
+    ghost output = { λ fault. Some (message_of fault) };
+
     fn fmt<W: fmt::Write>(&self, f: &mut fmt::Formatter<W>) -> fmt::Result {
         match *self {
             Fault::Token(fault) => write!(f, "{fault}"),

@@ -1,5 +1,5 @@
--- The faults of the term layer: their numbers and places.
-use Rattle.std.specs.Prelude.{ℕ}
+-- The faults of the term layer: their numbers, places and words.
+use Rattle.std.specs.Prelude.{ℕ, List, codes}
 use Rattle.declarations.specs.declared.fault.TermFault.{TermFault}
 use Rattle.declarations.specs.declared.fault.TermFault.TheVariants.{Unknown, Taken, Misfit, Full}
 
@@ -16,3 +16,10 @@ place_of (Unknown at) = at
 place_of (Taken at) = at
 place_of (Misfit at) = at
 place_of (Full at) = at
+
+-- What people read of a fault.
+abbrev pub message_of : TermFault → List ℕ
+message_of (Unknown at) = codes "a word that is not declared"
+message_of (Taken at) = codes "a word that has a meaning already"
+message_of (Misfit at) = codes "a term with arguments or a sort that do not fit"
+message_of (Full at) = codes "no room for one more in the list"

@@ -1,6 +1,6 @@
 //! What can be wrong with a command's declarations and terms, and where.
-ghost use Rattle.std.specs.Prelude.{◌≡◌};
-ghost use Rattle.declarations.specs.Faults.{number_of, place_of};
+ghost use Rattle.std.specs.Prelude.{◌≡◌, Some};
+ghost use Rattle.declarations.specs.Faults.{number_of, place_of, message_of};
 
 use std::fmt;
 
@@ -45,6 +45,8 @@ impl TermFault {
 
 /// The words that people see.
 impl fmt::Display for TermFault {
+    ghost output = { λ fault. Some (message_of fault) };
+
     fn fmt<W: fmt::Write>(&self, f: &mut fmt::Formatter<W>) -> fmt::Result {
         match *self {
             TermFault::Unknown { .. } => f.write_str("a word that is not declared"),

@@ -1,5 +1,5 @@
--- The faults of the form layer: their numbers and places, and how deep brackets may nest.
-use Rattle.std.specs.Prelude.{ℕ, ◌+◌, ◌-◌, cond, List, [], ◌∷◌, Some, None, Option, nat_lt}
+-- The faults of the form layer: their numbers, places and words, and how deep brackets may nest.
+use Rattle.std.specs.Prelude.{ℕ, ◌+◌, ◌-◌, cond, List, [], ◌∷◌, Some, None, Option, nat_lt, codes}
 use Rattle.text.specs.Tokens.{Tok, opens, closes, symbol, keyword, numeral, fault}
 use Rattle.forms.specs.declared.fault.FormFault.{FormFault}
 use Rattle.forms.specs.declared.fault.FormFault.TheVariants.{TooDeep, NoForm}
@@ -13,6 +13,11 @@ number_of NoForm = 20
 abbrev pub place_of : FormFault → ℕ
 place_of (TooDeep at) = at
 place_of NoForm = 0
+
+-- What people read of a fault.
+abbrev pub message_of : FormFault → List ℕ
+message_of (TooDeep at) = codes "more than 32 brackets open at once"
+message_of NoForm = codes "not a command of this part"
 
 -- How many brackets are open after a token. A stray closing bracket closes none.
 abbrev pub depth_after : ℕ → Tok → ℕ

@@ -1,6 +1,6 @@
 //! What can be wrong with a command's form, and where.
-ghost use Rattle.std.specs.Prelude.{◌≡◌};
-ghost use Rattle.forms.specs.Faults.{number_of, place_of};
+ghost use Rattle.std.specs.Prelude.{◌≡◌, Some};
+ghost use Rattle.forms.specs.Faults.{number_of, place_of, message_of};
 
 use std::fmt;
 
@@ -36,6 +36,8 @@ impl FormFault {
 
 /// The words that people see.
 impl fmt::Display for FormFault {
+    ghost output = { λ fault. Some (message_of fault) };
+
     fn fmt<W: fmt::Write>(&self, f: &mut fmt::Formatter<W>) -> fmt::Result {
         match *self {
             FormFault::TooDeep { .. } => f.write_str("more than 32 brackets open at once"),

@@ -1,6 +1,6 @@
 //! What a referee answers.
-ghost use Rattle.std.specs.Prelude.{◌≡◌};
-ghost use Rattle.referee.specs.Rulings.{number_of};
+ghost use Rattle.std.specs.Prelude.{◌≡◌, Some};
+ghost use Rattle.referee.specs.Rulings.{number_of, message_of};
 
 use std::fmt;
 
@@ -32,6 +32,8 @@ impl Ruling {
 
 /// The words that people see.
 impl fmt::Display for Ruling {
+    ghost output = { λ ruling. Some (message_of ruling) };
+
     fn fmt<W: fmt::Write>(&self, f: &mut fmt::Formatter<W>) -> fmt::Result {
         match *self {
             Ruling::Yes => f.write_str("the step keeps its rule"),

@@ -1,5 +1,5 @@
 -- The tokens of a command, each with its place.
-use Rattle.std.specs.Prelude.{ℕ, ◌+◌, ◌-◌, ◌*◌, Bool, cond, not, ◌&&◌, List, [], ◌∷◌, map, length, drop, Some, None, Ok, Err, fold, Option, Result, ◌==◌, nat_le, nat_lt, slice_index}
+use Rattle.std.specs.Prelude.{ℕ, ◌+◌, ◌-◌, ◌*◌, Bool, cond, not, ◌&&◌, List, [], ◌∷◌, map, length, drop, Some, None, Ok, Err, fold, Option, Result, ◌==◌, nat_le, nat_lt, slice_index, codes}
 use Rattle.std.specs.List.{prefix_len}
 use Rattle.std.specs.Str.{all_ascii_digits}
 use Rattle.text.specs.Bytes.{is_name, kind}
@@ -31,6 +31,13 @@ place_of (Stray at) = at
 place_of (BareColon at) = at
 place_of (TooLong at) = at
 place_of (BadNumeral at) = at
+
+-- What people read of a fault.
+abbrev pub message_of : TokenFault → List ℕ
+message_of (Stray at) = codes "a byte that belongs to no token"
+message_of (BareColon at) = codes "a colon with no name after it"
+message_of (TooLong at) = codes "a token of more than 64 bytes"
+message_of (BadNumeral at) = codes "a digit first, but no numeral from 0 to 1000000"
 
 -- The number that decimal digits write after others that write n.
 abbrev pub value_on : ℕ → List ℕ → ℕ

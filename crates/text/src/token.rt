@@ -1,6 +1,6 @@
 //! Tokens, their faults, and what a lexeme is.
 ghost use Rattle.std.specs.Prelude.{◌≡◌, ◌<◌, length, if◌then◌else◌, Some, None};
-ghost use Rattle.text.specs.Tokens.{number_of, place_of, place, is_numeral, value_on, token_at, seen, told};
+ghost use Rattle.text.specs.Tokens.{number_of, place_of, message_of, place, is_numeral, value_on, token_at, seen, told};
 
 use crate::bytes::{Kind, kind_of};
 use std::fmt;
@@ -78,6 +78,8 @@ impl TokenFault {
 
 /// The words that people see.
 impl fmt::Display for TokenFault {
+    ghost output = { λ fault. Some (message_of fault) };
+
     fn fmt<W: fmt::Write>(&self, f: &mut fmt::Formatter<W>) -> fmt::Result {
         match *self {
             TokenFault::Stray { .. } => f.write_str("a byte that belongs to no token"),
