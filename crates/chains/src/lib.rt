@@ -5,6 +5,7 @@ mod judge;
 mod outcome;
 mod search;
 
+ghost use Rattle.std.specs.Prelude.{IsTrue};
 ghost use Rattle.chains.specs.Cases.{cases};
 ghost use Rattle.chains.specs.Laws.{ChainLaw, ClosureIsLeast, ChainsDecided};
 ghost use Rattle.chains.specs.Rule.{chains, RulingsInWords};
@@ -18,13 +19,15 @@ pub fn chains_stand() -> bool
     ensures least { ClosureIsLeast }
     ensures decided { ChainsDecided }
     ensures words { RulingsInWords }
+    ensures stands { IsTrue result }
 {
     true
 }
 
 /// Cases that are worked by the definitions alone.
 pub fn cases_stand() -> bool
-    ensures { Worked chains cases }
+    ensures cases { Worked chains cases }
+    ensures stands { IsTrue result }
 {
     true
 }

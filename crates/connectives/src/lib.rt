@@ -7,6 +7,7 @@ mod fit;
 mod pieces;
 mod table;
 
+ghost use Rattle.std.specs.Prelude.{IsTrue};
 ghost use Rattle.referee.specs.Cases.{Worked};
 ghost use Rattle.connectives.specs.Cases.{cases};
 ghost use Rattle.connectives.specs.Examples.{examples};
@@ -19,6 +20,7 @@ pub use connectives::Connectives;
 pub fn rulings_stand() -> bool
     ensures exact { Exact }
     ensures single { Single }
+    ensures stands { IsTrue result }
 {
     true
 }
@@ -28,6 +30,7 @@ pub fn rulings_stand() -> bool
 pub fn cases_stand() -> bool
     ensures cases { Worked the_connectives cases }
     ensures examples { Worked the_connectives examples }
+    ensures stands { IsTrue result }
 {
     true
 }

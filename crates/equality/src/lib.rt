@@ -11,6 +11,7 @@ mod sides;
 mod trans;
 mod transitive;
 
+ghost use Rattle.std.specs.Prelude.{IsTrue};
 ghost use Rattle.meaning.specs.Proper.{Proper};
 ghost use Rattle.referee.specs.Cases.{Worked};
 ghost use Rattle.referee.specs.Samples.{names};
@@ -24,6 +25,7 @@ pub use judge::Equality;
 pub fn rules_stand() -> bool
     ensures tested { RulesTested }
     ensures kept { YesToKept }
+    ensures stands { IsTrue result }
 {
     true
 }
@@ -32,6 +34,7 @@ pub fn rules_stand() -> bool
 pub fn cases_stand() -> bool
     ensures worked { Worked equality cases }
     ensures proper { Proper names terms }
+    ensures stands { IsTrue result }
 {
     true
 }

@@ -5,6 +5,7 @@ mod read;
 #[cfg(test)]
 mod tests;
 
+ghost use Rattle.std.specs.Prelude.{IsTrue};
 ghost use Rattle.meaning.specs.Laws.{ValuesKept, BoolBits, TrueAtOne, ProperKept, NamesKept, ClausesWritten};
 
 pub use read::{clause_of, literal_of, term_at};
@@ -17,6 +18,7 @@ pub fn values_stand() -> bool
     ensures proper { ProperKept }
     ensures names { NamesKept }
     ensures clauses { ClausesWritten }
+    ensures stands { IsTrue result }
 {
     true
 }

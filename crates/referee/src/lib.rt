@@ -9,6 +9,7 @@ mod referee;
 mod ruling;
 mod sets;
 
+ghost use Rattle.std.specs.Prelude.{IsTrue};
 ghost use Rattle.meaning.specs.Proper.{Proper};
 ghost use Rattle.referee.specs.Meaning.{PairsKeep};
 ghost use Rattle.referee.specs.Samples as sample;
@@ -26,6 +27,7 @@ pub use sets::has;
 pub fn pairs_stand() -> bool
     ensures keep { PairsKeep }
     ensures samples { Proper sample.names sample.terms }
+    ensures stands { IsTrue result }
 {
     true
 }
