@@ -1,10 +1,8 @@
 -- Chatter is decided token by token.
-use Rattle.std.proofs.Common.{◌≡◌, ℕ, Bool, true, false, ◌&&◌, List, [], ◌∷◌, is_some, Some, None, Decides, Option, sym, refl, ap, ◌∙◌, subst, MatchOption}
-use Rattle.std.proofs.lemmas.Bool.Decides.{Decides-and}
-use Rattle.text.specs.Tokens.{Tok, opens, closes, symbol, tokens}
-use Rattle.pieces.specs.Laws.{Balanced}
+use Rattle.std.proofs.Common.{◌≡◌, ℕ, Bool, true, false, List, [], ◌∷◌, is_some, Some, None, Decides, Option, sym, refl, ap, ◌∙◌, subst, MatchOption}
+use Rattle.text.specs.Tokens.{Tok, opens, closes, symbol}
 use Rattle.text.proofs.Places.{off}
-use Rattle.commands.specs.Chatter.{Answer, Request, Setting, Answers, answer, Requests, request, setting, Speech, Chatter}
+use Rattle.commands.specs.Chatter.{Answer, Request, Setting, Answers, answer, Requests, request, setting, Speech}
 use Rattle.commands.specs.declared.part.Part.{Part}
 use Rattle.commands.specs.declared.part.Part.TheVariants.{Problem, Proof}
 
@@ -46,8 +44,3 @@ pub chatter_proof : (p : Part) (ts l : List Tok) (b : Bool) → p ≡ Proof → 
 chatter_proof p ts l b is e d =
     let D : Part → List Tok → Type 0 = λ q us. Decides b (Speech q us) in
     subst (λ q. D q ts) (sym is) (subst (D Proof) e d)
-
-pub whole_speech : (p : Part) (text : List ℕ) (x y : Bool) → Decides x (Balanced text) → Decides y (Speech p (tokens text)) → Decides (y && x) (Chatter p text)
-whole_speech p text x y d e =
-    let both = Decides-and y x e d in
-    ((λ h. let parts = both.0 h in record { whole = parts.1; speech = parts.0 }), λ h. both.1 (h.speech, h.whole))

@@ -1,3 +1,4 @@
 pub mod Faults
 pub mod Chatter
 pub mod Outcomes
+pub mod Shown

@@ -5,7 +5,7 @@ ghost use Rattle.text.specs.Tokens.{tokens};
 ghost use Rattle.commands.specs.Chatter.{Answer, Request, Setting, Answers, Requests, Speech, Chatter};
 
 use crate::part::Part;
-use forms::{closing, open, same, symbol};
+use forms::{closing, open, symbol};
 use pieces::balances;
 use text::Reader;
 
@@ -13,37 +13,35 @@ use text::Reader;
 fn answers(word: &[u8]) -> bool
     ensures { Decides result (Answer word.now) }
 {
-    same(word, b"unsat") || same(word, b"success")
+    matches!(word, b"unsat" | b"success")
 }
 
 /// Whether `word` alone in brackets asks a solver for something.
 fn requests(word: &[u8]) -> bool
     ensures { Decides result (Request word.now) }
 {
-    same(word, b"check-sat") || same(word, b"get-proof") || same(word, b"exit")
+    matches!(word, b"check-sat" | b"get-proof" | b"exit")
 }
 
 /// Whether a command that begins with `word` sets up a solver.
 fn settles(word: &[u8]) -> bool
     ensures { Decides result (Setting word.now) }
 {
-    same(word, b"set-option") || same(word, b"set-info")
+    matches!(word, b"set-option" | b"set-info")
 }
 
 /// Whether no token is left.
 fn ended(mut reader: Reader<'_>) -> bool
     ensures { Decides result (left reader.entry ≡ []) }
 {
-    match reader.next() {
-        Ok(None) => true,
-        _ => false,
-    }
+    matches!(reader.next(), Ok(None))
 }
 
 /// Whether the tokens are one bare word that a solver answers with.
 fn is_answer(reader: Reader<'_>) -> bool
     ensures { Decides result (Answers (left reader.entry)) }
 {
+    // `let .. else`, since what follows goes on with the reader that is given.
     let Some((word, rest)) = symbol(reader) else {
         return false;
     };
@@ -54,6 +52,7 @@ fn is_answer(reader: Reader<'_>) -> bool
 fn is_request(reader: Reader<'_>) -> bool
     ensures { Decides result (Requests (left reader.entry)) }
 {
+    // `let .. else`, since what follows goes on with the reader that is given.
     let Some((_, first)) = open(reader) else {
         return false;
     };
@@ -67,6 +66,7 @@ fn is_request(reader: Reader<'_>) -> bool
 fn is_speech(part: Part, text: &[u8]) -> bool
     ensures { Decides result (Speech part (tokens text.now)) }
 {
+    // A match, since there are two parts.
     match part {
         Part::Problem => is_request(Reader::new(text)),
         Part::Proof => is_answer(Reader::new(text)),

@@ -48,8 +48,9 @@ impl From<FormFault> for Fault {
     }
 }
 
+// Each case hands on to its layer, whose fault it is.
 impl Fault {
-    /// The refusal's number.
+    /// The refusal's number, by which people are told of it.
     pub fn number(self) -> u8
         ensures { result ≡ number_of self }
     {

@@ -1,7 +1,9 @@
 //! The forms of both parts, and how people see them.
-ghost use Rattle.std.specs.Prelude.{◌≡◌};
+ghost use Rattle.std.specs.Prelude.{◌≡◌, Some};
+ghost use Rattle.std.specs.Fmt.{WritesOnOk};
 ghost use Rattle.text.specs.Tokens.{tokens};
 ghost use Rattle.commands.specs.Outcomes.{OfForm, form_kind};
+ghost use Rattle.commands.specs.Shown.{name_shown, problem_shown, proof_shown, form_shown};
 
 use crate::kind::Kind;
 use crate::part::Part;
@@ -37,25 +39,24 @@ impl Form<'_> {
 pub fn form_of<'a>(part: Part, text: &'a [u8]) -> Result<Form<'a>, FormFault>
     ensures { OfForm part (tokens text.now) result }
 {
+    // A match, since there are two parts.
     match part {
-        Part::Problem => match problem_form(text) {
-            Ok(form) => Ok(Form::Problem(form)),
-            Err(fault) => Err(fault),
-        },
-        Part::Proof => match proof_form(text) {
-            Ok(form) => Ok(Form::Proof(form)),
-            Err(fault) => Err(fault),
-        },
+        Part::Problem => problem_form(text).map(Form::Problem),
+        Part::Proof => proof_form(text).map(Form::Proof),
     }
 }
 
 /// A name as people see it; its bytes are ASCII.
-fn shown(name: Word<'_>) -> &str {
+fn shown(name: Word<'_>) -> &str
+    ensures { result.now ≡ name_shown name.entry }
+{
     from_utf8(name.text).unwrap_or("?")
 }
 
 /// The form, and the name that it declares or bears.
 impl fmt::Display for Form<'_> {
+    ghost output = { λ form. Some (form_shown form) };
+
     fn fmt<W: fmt::Write>(&self, f: &mut fmt::Formatter<W>) -> fmt::Result {
         match *self {
             Form::Problem(form) => show_problem(form, f),
@@ -64,7 +65,9 @@ impl fmt::Display for Form<'_> {
     }
 }
 
-fn show_problem<W: fmt::Write>(form: ProblemForm<'_>, f: &mut fmt::Formatter<W>) -> fmt::Result {
+fn show_problem<W: fmt::Write>(form: ProblemForm<'_>, f: &mut fmt::Formatter<W>) -> fmt::Result
+    ensures { WritesOnOk W.write_str_gives f.old result (problem_shown form.entry) f.new }
+{
     match form {
         ProblemForm::SetLogic { logic } => write!(f, "set-logic {}", shown(logic)),
         ProblemForm::DeclareSort { sort } => write!(f, "declare-sort {}", shown(sort)),
@@ -73,10 +76,17 @@ fn show_problem<W: fmt::Write>(form: ProblemForm<'_>, f: &mut fmt::Formatter<W>)
     }
 }
 
-fn show_proof<W: fmt::Write>(form: ProofForm<'_>, f: &mut fmt::Formatter<W>) -> fmt::Result {
+fn show_proof<W: fmt::Write>(form: ProofForm<'_>, f: &mut fmt::Formatter<W>) -> fmt::Result
+    ensures { WritesOnOk W.write_str_gives f.old result (proof_shown form.entry) f.new }
+{
     match form {
         ProofForm::Assume { name, .. } => write!(f, "assume {}", shown(name)),
-        ProofForm::Step(step) => write!(f, "step {} by {}", shown(step.name), shown(step.rule)),
+        ProofForm::Step(step) => write!(
+            f,
+            "step {} by {}",
+            shown(step.name),
+            shown(step.reason.rule)
+        ),
         ProofForm::Anchor { step } => write!(f, "anchor {}", shown(step)),
     }
 }

@@ -22,6 +22,7 @@ impl Kind {
         ensures value { result ≡ number self }
         ensures within { result < 9 }
     {
+        // A number, since nine counters by name would want a match of nine arms at each use.
         self as usize
     }
 }

@@ -18,6 +18,7 @@ pub struct Command<'a> {
 }
 
 /// Solver chatter is skipped; all else is accepted or refused.
+// Three names of its own: an `Option` of a `Result` would call them `None`, `Ok` and `Err`.
 #[derive(Clone, Copy)]
 pub enum Outcome<'a> {
     Skipped,
@@ -41,10 +42,7 @@ impl Outcome<'_> {
     pub fn accepted(self) -> usize
         ensures { result ≡ command_count self.entry }
     {
-        match self {
-            Outcome::Accepted(_) => 1,
-            _ => 0,
-        }
+        usize::from(matches!(self, Outcome::Accepted(_)))
     }
 
     /// How many tokens of an accepted command it has.
@@ -77,6 +75,8 @@ pub fn examine<'a>(part: Part, text: &'a [u8]) -> Result<Command<'a>, Fault>
     Ok(Command { tokens, form })
 }
 
+// Part and text come apart, since one file has one part and many texts.
+
 /// What the command `text` of the part `part` comes to.
 pub fn outcome_of<'a>(part: Part, text: &'a [u8]) -> Outcome<'a>
     ensures value { Comes part text.now result }
@@ -85,6 +85,7 @@ pub fn outcome_of<'a>(part: Part, text: &'a [u8]) -> Outcome<'a>
     if is_chatter(part, text) {
         return Outcome::Skipped;
     }
+    // A match, which names both outcomes.
     match examine(part, text) {
         Ok(command) => Outcome::Accepted(command),
         Err(fault) => Outcome::Refused(fault),

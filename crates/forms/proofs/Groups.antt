@@ -1,11 +1,11 @@
 -- The parts of a step: its clause, and the lists that may be absent.
-use Rattle.std.proofs.Common.{◌≡◌, ℕ, ◌≤◌, List, [], ◌∷◌, Some, None, codes, Option, sym, refl, ap, ◌∙◌, arith}
+use Rattle.std.proofs.Common.{◌≡◌, ℕ, List, [], ◌∷◌, Some, None, codes, Option, sym, refl, ap, ◌∙◌, arith}
 use Rattle.text.specs.Reading.{left}
 use Rattle.text.specs.Tokens.{Tok, opens, closes, symbol, keyword}
 use Rattle.text.specs.declared.reader.Reader.{Reader}
-use Rattle.forms.specs.Trees.{Trees, count, spells, Fits}
+use Rattle.forms.specs.Trees.{Trees, spells}
 use Rattle.forms.specs.Forms.{Named, word, Group, absent, given, spell_group, FitGroup, place_of_group, Reason, spell_reason, FitReason}
-use Rattle.forms.specs.Parsed.{kept_reason, Grouped, Clause, NoClause}
+use Rattle.forms.specs.Parsed.{kept_reason, Grouped, Clause}
 use Rattle.forms.specs.declared.item.Item.{Item}
 use Rattle.forms.specs.declared.item.Item.TheVariants.{Term, Symbol, Argument}
 use Rattle.forms.proofs.Lists.{after_list}
@@ -15,9 +15,6 @@ use Rattle.forms.proofs.Spelling.{off}
 pub clause_follows : (tokens : List Tok) (at : ℕ) (rest : List Tok) → Clause tokens at rest → (a c : ℕ) (ts : Trees) (r : ℕ) (others : List Tok) → tokens ≡ opens a ∷ symbol c (codes "cl") ∷ spells ts (closes r ∷ others) → rest ≡ others
 clause_follows tokens at rest h a c ts r others e =
     let inner : h.inner ≡ spells ts (closes r ∷ others) = let o = h.opened in cc in after_list Term 0 h.inner rest h.listed ts r others inner
-
-pub no_clause : (tokens : List Tok) → NoClause tokens → (a c : ℕ) (ts : Trees) (r : ℕ) (others : List Tok) → count ts ≤ 64 → Fits Term ts → tokens ≡ opens a ∷ symbol c (codes "cl") ∷ spells ts (closes r ∷ others) → ⊥
-no_clause tokens h a c ts r others few fits e = h a c _ e ts r others (omega arith) few fits refl
 
 -- a key is not what tokens begin with
 abbrev pub NotKey : List ℕ → List Tok → Type 0

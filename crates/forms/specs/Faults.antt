@@ -1,5 +1,5 @@
 -- The faults of the form layer: their numbers, places and words, and how deep brackets may nest.
-use Rattle.std.specs.Prelude.{ℕ, ◌+◌, ◌-◌, cond, List, [], ◌∷◌, Some, None, Option, nat_lt, codes}
+use Rattle.std.specs.Prelude.{◌≡◌, ℕ, ◌+◌, ◌-◌, cond, List, [], ◌∷◌, Some, None, Ok, Err, Option, Result, nat_lt, codes}
 use Rattle.text.specs.Tokens.{Tok, opens, closes, symbol, keyword, numeral, fault}
 use Rattle.forms.specs.declared.fault.FormFault.{FormFault}
 use Rattle.forms.specs.declared.fault.FormFault.TheVariants.{TooDeep, NoForm}
@@ -37,3 +37,9 @@ too_deep depth (symbol at bytes ∷ ts) = too_deep depth ts
 too_deep depth (keyword at bytes ∷ ts) = too_deep depth ts
 too_deep depth (numeral at value ∷ ts) = too_deep depth ts
 too_deep depth (fault f ∷ ts) = None
+
+-- What the depth of brackets says of tokens: at most 32 are ever open, or this one makes more.
+abbrev pub Shallow : List Tok → Result Unit FormFault → Type 0
+Shallow tokens (Ok t) = too_deep 0 tokens ≡ None
+Shallow tokens (Err (TooDeep at)) = too_deep 0 tokens ≡ Some at
+Shallow tokens (Err NoForm) = ⊥

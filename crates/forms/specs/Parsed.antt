@@ -85,8 +85,7 @@ seen_reason j = record { rule = named j.rule; premises = j.premises; args = j.ar
 
 abbrev pub seen_proof : ProofForm → Move
 seen_proof (proof.Assume w term) = assumes (named w) term
-seen_proof (proof.Step s) =
-    steps (named s.name) s.clause (record { rule = named s.rule; premises = s.premises; args = s.args })
+seen_proof (proof.Step s) = steps (named s.name) s.clause (seen_reason s.reason)
 seen_proof (proof.Anchor w) = anchors (named w)
 
 -- Tokens are of a form exactly when a tree of it spells them, and then what the code has kept is what is kept of that tree.

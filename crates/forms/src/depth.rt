@@ -1,8 +1,9 @@
 //! How deep a command's brackets nest.
 ghost use Rattle.std.specs.Prelude.{◌≡◌, ◌≤◌};
 ghost use Rattle.text.specs.Tokens.{seen, tokens};
-ghost use Rattle.forms.specs.Faults.{depth_after, too_deep};
+ghost use Rattle.forms.specs.Faults.{depth_after, Shallow};
 
+use crate::fault::FormFault;
 use crate::takes::next;
 use text::{Reader, Token};
 
@@ -21,20 +22,18 @@ fn depth_after(depth: usize, token: Token<'_>) -> usize
     }
 }
 
-/// The place of the first bracket that makes more than 32 open.
-pub fn too_deep(text: &[u8]) -> Option<usize>
-    ensures { result ≡ too_deep 0 (tokens text.now) }
+/// Whether at most 32 brackets are ever open, or else the fault of the first that makes more.
+pub fn shallow(text: &[u8]) -> Result<(), FormFault>
+    ensures { Shallow (tokens text.now) result }
 {
     let mut reader = Reader::new(text);
     let mut depth = 0;
     while let Some((token, after)) = next(reader) {
-        if let Token::Open { at } = token {
-            if depth >= DEEPEST {
-                return Some(at);
-            }
+        match token {
+            Token::Open { at } if depth >= DEEPEST => return Err(FormFault::TooDeep { at }),
+            _ => depth = depth_after(depth, token),
         }
-        depth = depth_after(depth, token);
         reader = after;
     }
-    None
+    Ok(())
 }

@@ -12,8 +12,9 @@ pub enum FormFault {
     NoForm,
 }
 
+// Each layer has faults of its own, with numbers and words that no other has.
 impl FormFault {
-    /// The refusal's number.
+    /// The refusal's number, by which people are told of it.
     pub fn number(self) -> u8
         ensures { result ≡ number_of self }
     {

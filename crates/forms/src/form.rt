@@ -21,7 +21,8 @@ pub enum ProblemForm<'a> {
     },
 }
 
-/// The end of a step, from its rule on.
+/// How a step is justified: `premises` and `args` are the places of the two lists, which may be
+/// absent.
 #[derive(Clone, Copy)]
 pub struct JustifiedBy<'a> {
     pub rule: Word<'a>,
@@ -29,14 +30,12 @@ pub struct JustifiedBy<'a> {
     pub args: Option<usize>,
 }
 
-/// A step: `premises` and `args` are the places of the two lists, which may be absent.
+/// A step: its name, the place of its clause, and its justification.
 #[derive(Clone, Copy)]
 pub struct Step<'a> {
     pub name: Word<'a>,
     pub clause: usize,
-    pub rule: Word<'a>,
-    pub premises: Option<usize>,
-    pub args: Option<usize>,
+    pub reason: JustifiedBy<'a>,
 }
 
 /// A command of the proof part.

@@ -15,7 +15,7 @@ mod tests;
 mod word;
 
 pub use fault::FormFault;
-pub use form::{ProblemForm, ProofForm, Step};
+pub use form::{JustifiedBy, ProblemForm, ProofForm, Step};
 pub use layer::{problem_form, proof_form};
 pub use takes::{closing, next, open, same, symbol};
 pub use word::Word;

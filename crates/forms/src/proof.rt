@@ -1,14 +1,18 @@
 //! The forms of the proof part.
+ghost use Rattle.std.specs.Prelude.{ℕ, ◌∷◌};
 ghost use Rattle.std.specs.Option.{MatchOption};
+ghost use Rattle.text.specs.Tokens.{opens, symbol as symbolic};
 ghost use Rattle.text.specs.Reading.{left};
 ghost use Rattle.forms.specs.Forms.{spell_assume, spell_reason, spell_step, spell_anchor, FitAssume, FitReason, FitStep, spell_proof, FitProof};
 ghost use Rattle.forms.specs.Parsed.{Parses, Grouped, Clause, NoClause, kept_assume, kept_reason, kept_step, kept_anchor, kept_proof, seen_reason, seen_proof};
 
 use crate::form::{JustifiedBy, ProofForm, Step};
 use crate::item::Item;
-use crate::takes::{closing, open, same, symbol, the_keyword, the_symbol};
+use crate::takes::{closing, open, symbol, the_keyword, the_symbol};
 use crate::terms::{items, placed_term};
 use text::Reader;
+
+// A function for each form, since each takes its own row of tokens.
 
 /// `N t)`
 fn assume<'a>(body: Reader<'a>) -> Option<ProofForm<'a>>
@@ -74,18 +78,27 @@ fn step<'a>(body: Reader<'a>) -> Option<ProofForm<'a>>
 {
     let (name, after_name) = symbol(body)?;
     let (clause, after_clause) = clause(after_name)?;
-    let JustifiedBy {
-        rule,
-        premises,
-        args,
-    } = reason(after_clause)?;
+    let reason = reason(after_clause)?;
     Some(ProofForm::Step(Step {
         name,
         clause,
-        rule,
-        premises,
-        args,
+        reason,
     }))
+}
+
+// For each part a function of its own, since the parts have other trees.
+
+/// What follows the bracket and the word `head`.
+#[tactic(auto, using(crate::proofs::Heads::no_move))]
+fn headed<'a>(head: &[u8], body: Reader<'a>) -> Option<ProofForm<'a>>
+    ensures { (at place : ℕ) → Parses FitProof spell_proof kept_proof seen_proof (opens at ∷ symbolic place head.now ∷ left body.entry) result }
+{
+    match head {
+        b"step" => step(body),
+        b"assume" => assume(body),
+        b"anchor" => anchor(body),
+        _ => None,
+    }
 }
 
 /// A command of the proof part.
@@ -94,13 +107,5 @@ pub fn proof<'a>(reader: Reader<'a>) -> Option<ProofForm<'a>>
 {
     let (_, first) = open(reader)?;
     let (head, body) = symbol(first)?;
-    if same(head.text, b"step") {
-        step(body)
-    } else if same(head.text, b"assume") {
-        assume(body)
-    } else if same(head.text, b"anchor") {
-        anchor(body)
-    } else {
-        None
-    }
+    headed(head.text, body)
 }

@@ -8,6 +8,7 @@ use crate::word::Word;
 use text::{Reader, Token};
 
 /// Whether two words have the same bytes.
+// A function, since its clause is on the words: `==` says it element by element.
 pub fn same(a: &[u8], b: &[u8]) -> bool
     ensures { Decides result (a.now ≡ b.now) }
 {
@@ -18,12 +19,11 @@ pub fn same(a: &[u8], b: &[u8]) -> bool
 pub fn next<'a>(mut reader: Reader<'a>) -> Option<(Token<'a>, Reader<'a>)>
     ensures { MatchOption result (NoToken (left reader.entry)) (λ p. left reader.entry ≡ seen p.0 ∷ left p.1) }
 {
-    match reader.next() {
-        Ok(Some(token)) => Some((token, reader)),
-        _ => None,
-    }
+    let token = reader.next().ok()??;
+    Some((token, reader))
 }
 
+// Each takes its token by a match of its own: a closure in its place would hold the same match.
 /// An opening bracket: its place, and the reader after it.
 pub fn open<'a>(mut reader: Reader<'a>) -> Option<(usize, Reader<'a>)>
     ensures { Takes opens (left reader.entry) result }

@@ -12,14 +12,15 @@ use text::{Reader, Token};
 /// The most items of a list.
 pub const MOST_ITEMS: usize = 64;
 
+// The first token and the reader after it come apart, since the token says how the reader goes on.
+
 /// Reads the term that begins with `first`, and gives the reader after it.
 #[cycle(item_items_term)]
 pub fn term<'a>(first: Token<'a>, after: Reader<'a>) -> Option<Reader<'a>>
     ensures { MatchOption result (NoneFirst Terms (seen first.entry ∷ left after.entry)) (λ rest. First Terms (seen first.entry ∷ left after.entry) (left rest)) }
 {
     match first {
-        Token::Symbol { .. } => Some(after),
-        Token::Numeral { .. } => Some(after),
+        Token::Symbol { .. } | Token::Numeral { .. } => Some(after),
         Token::Open { .. } => {
             let (_, inner) = symbol(after)?;
             items(Item::Term, 1, inner)
@@ -49,6 +50,7 @@ fn argument<'a>(first: Token<'a>, after: Reader<'a>) -> Option<Reader<'a>>
 fn item<'a>(kind: Item, first: Token<'a>, after: Reader<'a>) -> Option<Reader<'a>>
     ensures { MatchOption result (NoneFirst kind (seen first.entry ∷ left after.entry)) (λ rest. First kind (seen first.entry ∷ left after.entry) (left rest)) }
 {
+    // A match, since the kinds of items are closed.
     match kind {
         Item::Term => term(first, after),
         Item::Symbol => match first {
@@ -65,6 +67,7 @@ pub fn items<'a>(kind: Item, least: usize, reader: Reader<'a>) -> Option<Reader<
     ensures { MatchOption result (NotListed kind least (left reader.entry)) (λ rest. Listed kind least (left reader.entry) (left rest)) }
 {
     let mut rest = reader;
+    // A number, since too few items are told from enough.
     for count in 0..MOST_ITEMS + 1 {
         let (first, after) = next(rest)?;
         if let Token::Close { .. } = first {

@@ -97,9 +97,9 @@ fn places(rt: HostRuntime) -> Result<(), Fail> {
         Ok(ProofForm::Step(step)) => {
             assert_eq!(rt; step.name.at, 7);
             assert_eq!(rt; step.clause, 10);
-            assert_eq!(rt; step.rule.at, 23);
-            assert_eq!(rt; step.premises, None);
-            assert_eq!(rt; step.args, Some(31));
+            assert_eq!(rt; step.reason.rule.at, 23);
+            assert_eq!(rt; step.reason.premises, None);
+            assert_eq!(rt; step.reason.args, Some(31));
         }
         _ => return Err(Fail::new("no step")),
     }

@@ -20,21 +20,26 @@ deeper_by_one : (d : ℕ) (c : Bool) (b : ℕ) → depth_behind d c b ≤ d + 1
 deeper_by_one d c b = grind (arith, nat_tests)
 
 -- the loop's step
-pub closing_on : (d : ℕ) (c : Bool) (text : List ℕ) (i all : ℕ) → i < length text → 0 < d → d ≤ i → i + closing d c (drop i text) ≡ all → (d' : ℕ) → d' ≡ depth_behind d c (get_or text i 0) → (c' : Bool) → c' ≡ comment_behind c (get_or text i 0) → (d' ≤ i + 1) × (i + 1 ≤ length text) × (i + 1 + closing d' c' (drop (i + 1) text) ≡ all)
+pub closing_on : (d : ℕ) (c : Bool) (text : List ℕ) (i all : ℕ) → i < length text → 0 < d → d ≤ i + 1 → i + closing d c (drop i text) ≡ all → (d' : ℕ) → d' ≡ depth_behind d c (get_or text i 0) → (c' : Bool) → c' ≡ comment_behind c (get_or text i 0) → (d' ≤ i + 1 + 1) × (i + 1 + closing d' c' (drop (i + 1) text) ≡ all)
 closing_on d c text i all lt deep low inv d' e c' f =
     let more : closing d c (drop i text) ≡ 1 + closing d' c' (drop (i + 1) text) =
     closing_more d c text i lt deep ∙ sym (λ k. 1 + closing (e k) (f k) (drop (i + 1) text))
     in
-    (omega (arith, deeper_by_one d c (get_or text i 0)), omega arith, omega arith)
+    (omega (arith, deeper_by_one d c (get_or text i 0)), omega arith)
 
 pub closing_none : (d : ℕ) (c : Bool) (text : List ℕ) (i : ℕ) → length text ≤ i → closing d c (drop i text) ≡ 0
 unfolding closing
 closing_none d c text i le = at_drop_all (closing d c) text i le
 
-pub closing_done : (d : ℕ) (c : Bool) (bs : List ℕ) → d ≡ 0 → closing d c bs ≡ 0
+closing_done : (d : ℕ) (c : Bool) (bs : List ℕ) → d ≡ 0 → closing d c bs ≡ 0
 unfolding closing
 closing_done d c [] e = refl
 closing_done d c (b ∷ bs) e = rw e
+
+-- the byte at i closes the last bracket
+pub closed : (d : ℕ) (c : Bool) (text : List ℕ) (i all : ℕ) → i < length text → 0 < d → d ≤ i + 1 → i + closing d c (drop i text) ≡ all → (d' : ℕ) → d' ≡ depth_behind d c (get_or text i 0) → (c' : Bool) → c' ≡ comment_behind c (get_or text i 0) → d' ≡ 0 → i + 1 ≡ all
+closed d c text i all lt deep low inv d' e c' f none =
+    omega (arith, (closing_on d c text i all lt deep low inv d' e c' f).1, closing_done d' c' (drop (i + 1) text) none)
 
 closing_le : (d : ℕ) (c : Bool) (bs : List ℕ) → closing d c bs ≤ length bs
 unfolding closing

@@ -1,7 +1,7 @@
 -- Each piece has its shape.
-use Rattle.std.proofs.Common.{◌≡◌, ℕ, zero, suc, ◌+◌, ◌-◌, ◌<◌, ◌≤◌, Bool, true, false, List, [], ◌∷◌, length, get_or, take, drop, refl, ap, ◌∙◌, inl, inr, ⊎_elim, one-add, arith, length-drop, length-take-le}
+use Rattle.std.proofs.Common.{◌≡◌, ℕ, zero, suc, ◌+◌, ◌-◌, ◌≤◌, true, false, List, [], ◌∷◌, length, get_or, take, drop, refl, ap, ◌∙◌, inl, inr, ⊎_elim, arith, length-drop, length-take-le}
 use Rattle.std.specs.List.{prefix_len, AllByRecursion}
-use Rattle.std.proofs.lemmas.List.Sums.{prefix_len-le-length, sum_by-cons}
+use Rattle.std.proofs.lemmas.List.Sums.{prefix_len-le-length, prefix_len_stops, sum_by-cons}
 use Rattle.std.proofs.lemmas.Bool.{cond_both}
 use Rattle.std.proofs.lemmas.Bool.Decides.{nat_tests}
 use Rattle.text.specs.Bytes.{is_blank, is_semicolon, in_line, kind}
@@ -9,23 +9,12 @@ use Rattle.text.specs.Parts.{Part, parts, parts_from}
 use Rattle.text.specs.declared.bytes.Kind.{Kind}
 use Rattle.text.specs.declared.bytes.Kind.TheVariants.{Blank, Comment, Open, Close, Colon, Digit, Initial, Other}
 use Rattle.text.proofs.Cuts.{few_parts}
-use Rattle.text.proofs.Laying.{rest_at, byte_after, laid}
+use Rattle.text.proofs.Laying.{run_passes, rest_at, byte_after, laid}
 use Rattle.pieces.specs.Pieces.{is_bare, enclosed, reaches, piece, pieces}
 use Rattle.pieces.specs.Cutting.{size}
 use Rattle.pieces.specs.Laws.{Shape, bracketed, stray, word, Cut}
 use Rattle.pieces.proofs.Closing.{enclosed_le, bounded}
 use Rattle.pieces.proofs.Balance.{none_shorter, whole_or_rest}
-
--- a longest run passes, and what stands after it does not
-run_passes : (p : ℕ → Bool) (xs : List ℕ) → AllByRecursion (λ x. p x ≡ true) (take (prefix_len p xs) xs)
-run_passes p [] = tt
-run_passes p (x ∷ xs) =
-    cond_both (p x) (1 + prefix_len p xs) 0 (λ n. AllByRecursion (λ y. p y ≡ true) (take n (x ∷ xs))) (λ e. rw one-add (e, run_passes p xs)) (λ _. tt)
-
-run_stops : (p : ℕ → Bool) (xs : List ℕ) → prefix_len p xs < length xs → p (get_or xs (prefix_len p xs) 0) ≡ false
-run_stops p [] lt = absurd (omega arith)
-run_stops p (x ∷ xs) lt =
-    cond_both (p x) (1 + prefix_len p xs) 0 (λ n. n < suc (length xs) → p (get_or (x ∷ xs) n 0) ≡ false) (λ _ more. rw one-add (run_stops p xs (omega arith))) (λ e _. e) lt
 
 -- the byte b stands at a place and bs after it
 module _ (text : List ℕ) (at b : ℕ) (bs : List ℕ) (here : drop at text ≡ b ∷ bs) where
@@ -49,7 +38,7 @@ module _ (text : List ℕ) (at b : ℕ) (bs : List ℕ) (here : drop at text ≡
       let next : get_or text (at + suc (length (take (prefix_len is_bare bs) bs))) 0 ≡ get_or bs (prefix_len is_bare bs) 0 =
       ap (λ i. get_or text i 0) end ∙ byte_after text at b bs here _ (omega arith) ∙ ap (λ i. get_or bs i 0) place
       in
-      word (record { some = omega arith; run = (e, run_passes is_bare bs); longest = λ lt. ap is_bare next ∙ run_stops is_bare bs (omega (arith, whole)) })
+      word (record { some = omega arith; run = (e, run_passes is_bare bs); longest = λ lt. ap is_bare next ∙ prefix_len_stops is_bare bs 0 (omega (arith, whole)) })
 
   shape : (k : Kind) → k ≡ kind b → is_blank b ≡ false → is_semicolon b ≡ false → Shape text (record { at = at; bytes = b ∷ take (reaches k bs) bs })
   shape Blank is solid plain = absurd (grind (arith, nat_tests))

@@ -1,5 +1,5 @@
--- What a cutter still has to give, and what its calls answer.
-use Rattle.std.specs.Prelude.{◌≡◌, ℕ, List, [], ◌∷◌, length, Some, None, sum_by, Option}
+-- What a cutter still has to give.
+use Rattle.std.specs.Prelude.{ℕ, List, length, sum_by}
 use Rattle.text.specs.Parts.{Part, parts_from}
 use Rattle.pieces.specs.Pieces.{piece}
 use Rattle.pieces.specs.declared.cutter.Cutter.{Cutter}
@@ -16,8 +16,3 @@ size ps = sum_by (λ p. length p.bytes) ps
 -- The piece that the code has made.
 abbrev pub seen : Piece → Part
 seen p = record { at = p.at; bytes = p.text.now }
-
--- What `next` answers where the pieces `was` are to come, and those that are to come after it.
-abbrev pub Next : List Part → Option Piece → List Part → Type 0
-Next was None after = (was ≡ []) × (after ≡ [])
-Next was (Some p) after = was ≡ seen p ∷ after

@@ -1,7 +1,8 @@
 //! The cutter of a file: its pieces one by one.
 ghost use Rattle.std.specs.Prelude.{◌≡◌, ◌+◌, ◌<◌, ◌≤◌, length, drop, slice_index};
+ghost use Rattle.std.specs.Iterator.{YieldsFirstBy, item_count};
 ghost use Rattle.pieces.specs.Pieces.{is_bare, piece, pieces};
-ghost use Rattle.pieces.specs.Cutting.{left, size, Next};
+ghost use Rattle.pieces.specs.Cutting.{left, size, seen};
 ghost use Rattle.pieces.specs.Laws.{Cut};
 
 use crate::nest::bracket_end;
@@ -14,10 +15,7 @@ impl Class for Bare {
     ghost holds = { is_bare };
 
     fn has(b: u8) -> bool {
-        match b as char {
-            ' ' | '\t' | '\n' | '\r' | ';' | '(' | ')' => false,
-            _ => true,
-        }
+        !matches!(b as char, ' ' | '\t' | '\n' | '\r' | ';' | '(' | ')')
     }
 }
 
@@ -58,11 +56,17 @@ impl<'a> Cutter<'a> {
     {
         Cutter { text, cursor: 0 }
     }
+}
 
-    /// The next piece, or `None` at the end.
-    pub fn next(&mut self) -> Option<Piece<'a>>
-        ensures { Next (left self.old) result (left self.new) }
-    {
+/// Gives the pieces in order. After the last there is none any more.
+impl<'a> Iterator for Cutter<'a> {
+    type Item = Piece<'a>;
+
+    ghost next_gives = { YieldsFirstBy seen left };
+
+    ghost remaining = { item_count left };
+
+    fn next(&mut self) -> Option<Piece<'a>> {
         let at = skip(self.text, self.cursor);
         if at >= self.text.len() {
             return None;

@@ -8,7 +8,7 @@ use crate::nest::comment_behind;
 fn counts(comment: bool, b: u8, bracket: u8) -> usize
     ensures { result ≡ (if not comment && b == bracket then 1 else 0) }
 {
-    if !comment && b == bracket { 1 } else { 0 }
+    usize::from(!comment && b == bracket)
 }
 
 /// Whether as many brackets close as open in `text`, those in comments aside.

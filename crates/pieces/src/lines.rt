@@ -21,15 +21,15 @@ fn count_on(text: &[u8], near: Position, at: usize) -> Position
 {
     let mut line = near.line;
     let mut column = near.column;
-    let mut i = near.at;
-    while i < at && i < text.len() {
-        if text[i] == b'\n' {
+    let end = at.min(text.len());
+    let start = near.at.min(end);
+    for b in &text[start..end] {
+        if *b == b'\n' {
             line += 1;
             column = 1;
         } else {
             column += 1;
         }
-        i += 1;
     }
     Position { at, line, column }
 }

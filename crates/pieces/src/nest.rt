@@ -2,6 +2,8 @@
 ghost use Rattle.std.specs.Prelude.{◌≡◌, ◌+◌, ◌^◌, ◌<◌, ◌≤◌, length, drop};
 ghost use Rattle.pieces.specs.Pieces.{comment_behind, depth_behind, enclosed};
 
+// A byte and whether it stands in a comment come apart: the one is read, the other kept.
+
 /// Whether a comment goes on behind the byte `b`.
 pub fn comment_behind(comment: bool, b: u8) -> bool
     ensures { result ≡ comment_behind comment b }
@@ -39,11 +41,12 @@ pub fn bracket_end(text: &[u8], from: usize) -> usize
 {
     let mut depth = 1;
     let mut comment = false;
-    let mut end = from;
-    while end < text.len() && depth > 0 {
-        depth = depth_behind(depth, comment, text[end]);
-        comment = comment_behind(comment, text[end]);
-        end += 1;
+    for (passed, b) in text[from..].iter().enumerate() {
+        depth = depth_behind(depth, comment, *b);
+        comment = comment_behind(comment, *b);
+        if depth == 0 {
+            return from + passed + 1;
+        }
     }
-    end
+    text.len()
 }

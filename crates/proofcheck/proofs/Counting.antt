@@ -78,12 +78,6 @@ module _ (part : Part) (all was after : List Piece) (long : ℕ) (report : Repor
   sized : size was ≡ length p.bytes + size after
   sized = ap (λ ps. size ps) e ∙ sum_by-cons (λ q. length q.bytes) p after
 
-  pub room_commands : report.commands + 1 ≤ long
-  room_commands = omega (arith, h.few, ap length e)
-
-  pub room_kind : (k : Kind) → of report k + 1 ≤ long
-  room_kind k = omega (arith, h.few_kinds k, ap length e)
-
   module _ (o : Outcome) (comes : Comes part p.bytes o) where
     pub room_tokens : report.tokens + token_count o ≤ long
     room_tokens = omega (arith, h.fits, sized, tokens_fit part p.bytes o comes)

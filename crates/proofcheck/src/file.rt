@@ -47,8 +47,7 @@ pub fn check_file(rt: &HostRuntime, file: File<'_>, text: &[u8]) -> io::Result<R
 {
     let mut report = Report::new(file.part);
     let mut lines = Lines::new(text);
-    let mut cutter = Cutter::new(text);
-    while let Some(piece) = cutter.next() {
+    for piece in Cutter::new(text) {
         let outcome = outcome_of(file.part, piece.text);
         let place = lines.position(piece.at.saturating_add(outcome.place()));
         print_outcome(rt, file, place, report.commands + 1, outcome)?;

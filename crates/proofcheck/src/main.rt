@@ -31,13 +31,10 @@ up. The status is 0 where no command is refused, and 1 otherwise.";
 
 /// The bytes of the file `name`.
 fn read(rt: &HostRuntime, name: &str) -> Result<Vec<u8>, Failure> {
-    match fs::read(rt, name) {
-        Ok(bytes) => Ok(bytes),
-        Err(error) => {
-            eprintln!(rt; "proofcheck: cannot read {name}: {error}")?;
-            Err(Failure::Unreadable)
-        }
-    }
+    fs::read(rt, name).or_else(|error| {
+        eprintln!(rt; "proofcheck: cannot read {name}: {error}")?;
+        Err(Failure::Unreadable)
+    })
 }
 
 /// Checks `file`, which holds `text`, and prints a line that sums it up.

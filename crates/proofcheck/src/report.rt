@@ -1,5 +1,5 @@
 //! What was found in a file: how often each kind of outcome.
-ghost use Rattle.std.specs.Prelude.{◌≡◌, ◌+◌, ◌^◌, ◌<◌, length, slice_index, slice_set};
+ghost use Rattle.std.specs.Prelude.{◌≡◌, ◌+◌, ◌^◌, ◌<◌, length, slice_index, slice_set, Some};
 ghost use Rattle.commands.specs.Outcomes.{number, kind_of, command_count, token_count};
 
 use commands::{Kind, Outcome, Part};
@@ -52,38 +52,52 @@ impl Report {
     }
 }
 
-/// The counts of the forms of the report's part.
-fn show_forms<W: fmt::Write>(report: &Report, f: &mut fmt::Formatter<W>) -> fmt::Result {
-    match report.part {
-        Part::Problem => write!(
-            f,
-            "{} set-logic, {} declare-sort, {} declare-fun, {} assert",
-            report.count(Kind::SetLogic),
-            report.count(Kind::DeclareSort),
-            report.count(Kind::DeclareFun),
-            report.count(Kind::Assert)
-        ),
-        Part::Proof => write!(
-            f,
-            "{} assume, {} step, {} anchor",
-            report.count(Kind::Assume),
-            report.count(Kind::Step),
-            report.count(Kind::Anchor)
-        ),
+/// How often each form of the report's part was found.
+#[derive(Clone, Copy)]
+struct Forms<'a>(&'a Report);
+
+impl fmt::Display for Forms<'_> {
+    ghost use Rattle.proofcheck.specs.Summary.{forms_shown};
+
+    ghost output = { λ forms. Some (forms_shown forms.0.now.part forms.0.now) };
+
+    fn fmt<W: fmt::Write>(&self, f: &mut fmt::Formatter<W>) -> fmt::Result {
+        let report = self.0;
+        match report.part {
+            Part::Problem => write!(
+                f,
+                "{} set-logic, {} declare-sort, {} declare-fun, {} assert",
+                report.count(Kind::SetLogic),
+                report.count(Kind::DeclareSort),
+                report.count(Kind::DeclareFun),
+                report.count(Kind::Assert)
+            ),
+            Part::Proof => write!(
+                f,
+                "{} assume, {} step, {} anchor",
+                report.count(Kind::Assume),
+                report.count(Kind::Step),
+                report.count(Kind::Anchor)
+            ),
+        }
     }
 }
 
+/// A line that sums the report up.
 impl fmt::Display for Report {
+    ghost use Rattle.proofcheck.specs.Summary.{report_shown};
+
+    ghost output = { λ report. Some (report_shown report) };
+
     fn fmt<W: fmt::Write>(&self, f: &mut fmt::Formatter<W>) -> fmt::Result {
-        let commands = self.commands;
-        let tokens = self.tokens;
-        let skipped = self.count(Kind::Skipped);
-        let refused = self.count(Kind::Refused);
-        write!(f, "{commands} commands (")?;
-        show_forms(self, f)?;
         write!(
             f,
-            "), {tokens} tokens, {skipped} skipped, {refused} refused"
+            "{} commands ({}), {} tokens, {} skipped, {} refused",
+            self.commands,
+            Forms(self),
+            self.tokens,
+            self.count(Kind::Skipped),
+            self.count(Kind::Refused)
         )
     }
 }

@@ -1,30 +1,24 @@
 -- A text is laid out by its parts.
-use Rattle.std.proofs.Common.{◌≡◌, ℕ, zero, suc, ◌+◌, ◌-◌, ◌<◌, ◌≤◌, Bool, true, false, cond, List, [], ◌∷◌, length, get_or, take, drop, sym, refl, ap, ◌∙◌, inl, inr, ⊎_elim, add-zero, one-add, arith, length-take-le, get_or-drop}
-use Rattle.std.specs.List.{prefix_len}
-use Rattle.std.proofs.lemmas.List.{drop-drop}
-use Rattle.std.proofs.lemmas.List.Sums.{prefix_len-le-length}
+use Rattle.std.proofs.Common.{◌≡◌, ℕ, zero, suc, ◌+◌, ◌-◌, ◌<◌, ◌≤◌, Bool, true, false, List, [], ◌∷◌, length, get_or, take, drop, sym, refl, ap, ◌∙◌, inl, inr, ⊎_elim, add-zero, one-add, arith, length-take-le, get_or-drop}
+use Rattle.std.specs.List.{prefix_len, AllByRecursion}
+use Rattle.std.proofs.lemmas.List.{drop-drop, get_or_past}
+use Rattle.std.proofs.lemmas.List.Sums.{prefix_len-le-length, prefix_len_passes, prefix_len_stops}
 use Rattle.std.proofs.lemmas.Bool.{cases_lt, cases_eq, cond_both, not-true}
 use Rattle.std.proofs.lemmas.Bool.Decides.{nat_tests}
 use Rattle.text.specs.Bytes.{is_blank, is_semicolon, in_line, ends_line}
 use Rattle.text.specs.Parts.{Part, Reach, parts, parts_from}
 use Rattle.text.specs.Layout.{Gap, Stands, Laid}
 
-below_cond : (b : Bool) (m k : ℕ) → k < cond b m 0 → (b ≡ true) × (k < m)
-below_cond true m k lt = (refl, lt)
-below_cond false m k lt = absurd (omega arith)
+-- each of a longest run passes
+pub run_passes : (p : ℕ → Bool) (xs : List ℕ) → AllByRecursion (λ x. p x ≡ true) (take (prefix_len p xs) xs)
+run_passes p [] = tt
+run_passes p (x ∷ xs) =
+    cond_both (p x) (1 + prefix_len p xs) 0 (λ n. AllByRecursion (λ y. p y ≡ true) (take n (x ∷ xs))) (λ e. rw one-add (e, run_passes p xs)) (λ _. tt)
 
--- each of the leading elements passes
-pub leading_passes : (p : ℕ → Bool) (xs : List ℕ) (k : ℕ) → k < prefix_len p xs → p (get_or xs k 0) ≡ true
-leading_passes p [] k lt = absurd (omega arith)
-leading_passes p (x ∷ xs) zero lt = (below_cond (p x) (1 + prefix_len p xs) 0 lt).0
-leading_passes p (x ∷ xs) (suc k) lt = leading_passes p xs k (omega (arith, (below_cond (p x) (1 + prefix_len p xs) (suc k) lt).1))
-
--- and the one after them does not, nor does the default where they are all
-pub leading_stops : (p : ℕ → Bool) (xs : List ℕ) → (length xs ≤ prefix_len p xs → p 0 ≡ false) → p (get_or xs (prefix_len p xs) 0) ≡ false
-leading_stops p [] end = end (omega arith)
-leading_stops p (x ∷ xs) end =
-    cond_both (p x) (1 + prefix_len p xs) 0 (λ n. (suc (length xs) ≤ n → p 0 ≡ false) → p (get_or (x ∷ xs) n 0) ≡ false)
-    (λ _ last. rw one-add (leading_stops p xs (λ le. last (omega arith)))) (λ e _. e) end
+-- where all pass, the default stands behind the longest run
+pub run_stops : (p : ℕ → Bool) (xs : List ℕ) → p 0 ≡ false → p (get_or xs (prefix_len p xs) 0) ≡ false
+run_stops p xs end =
+    ⊎_elim (prefix_len_stops p xs 0) (λ le. ap p (get_or_past xs (prefix_len p xs) 0 le) ∙ end) (cases_lt (prefix_len p xs) (length xs))
 
 joined_gaps : (text : List ℕ) (i j k : ℕ) → Gap text i j → Gap text j k → Gap text i k
 joined_gaps text i j k g h = record {
@@ -75,7 +69,7 @@ module _ (text : List ℕ) (at b : ℕ) (bs : List ℕ) (here : drop at text ≡
 
       inside : (m : ℕ) → at < m → m < at + 1 + prefix_len in_line bs → ends_line (get_or text m 0) ≡ false
       inside m low high =
-          let passes : in_line (get_or bs (m - (at + 1)) 0) ≡ true = leading_passes in_line bs (m - (at + 1)) (omega arith) in
+          let passes : in_line (get_or bs (m - (at + 1)) 0) ≡ true = prefix_len_passes in_line bs (m - (at + 1)) 0 (omega arith) in
           rw (byte_after m low) (not-true _ passes)
 
   stands : (n : ℕ) → n ≤ length bs → Stands text (record { at = at; bytes = b ∷ take n bs })

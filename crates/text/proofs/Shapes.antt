@@ -1,9 +1,7 @@
 -- Each lexeme has its shape and begins outside comments.
 use Rattle.std.proofs.Common.{◌≡◌, ℕ, zero, suc, ◌+◌, ◌-◌, ◌<◌, ◌≤◌, true, false, List, [], ◌∷◌, length, get_or, take, drop, sym, refl, ap, ◌∙◌, inl, inr, ⊎_elim, add-zero, arith, length-take-le}
 use Rattle.std.specs.List.{prefix_len, AllByRecursion}
-use Rattle.std.proofs.ByRecursion.{All-from_get_or}
-use Rattle.std.proofs.lemmas.List.{get_or-take}
-use Rattle.std.proofs.lemmas.List.Sums.{prefix_len-le-length}
+use Rattle.std.proofs.lemmas.List.Sums.{prefix_len-le-length, prefix_len_passes, prefix_len_stops}
 use Rattle.std.proofs.lemmas.Bool.{cases_lt, cases_eq, cond_both, not-false}
 use Rattle.std.proofs.lemmas.Bool.Decides.{nat_tests}
 use Rattle.text.specs.Bytes.{is_name, is_blank, is_semicolon, in_line, ends_line, kind}
@@ -12,7 +10,7 @@ use Rattle.text.specs.Tokens.{begins, lexeme}
 use Rattle.text.specs.Layout.{InComment, Shape, bracket, run, colon, stray, Lexeme, Lexed}
 use Rattle.text.specs.declared.bytes.Kind.{Kind}
 use Rattle.text.specs.declared.bytes.Kind.TheVariants.{Blank, Comment, Open, Close, Colon, Digit, Initial, Other}
-use Rattle.text.proofs.Laying.{leading_passes, leading_stops, byte_at, rest_at, byte_after, laid}
+use Rattle.text.proofs.Laying.{run_passes, run_stops, byte_at, rest_at, byte_after, laid}
 
 -- no comment that began before a place goes on there
 Outside : List ℕ → ℕ → Type 0
@@ -32,19 +30,12 @@ lexeme_bounded b bs = bound (kind b)
     bound Initial = prefix_len-le-length is_name bs
     bound Other = omega arith
 
--- the bytes of a longest run of name bytes are name bytes
-names : (bs : List ℕ) → AllByRecursion (λ c. is_name c ≡ true) (take (prefix_len is_name bs) bs)
-names bs =
-    All-from_get_or (λ c. is_name c ≡ true) (take (prefix_len is_name bs) bs) 0
-    (λ i lt. let short : i < prefix_len is_name bs = omega (arith, length-take-le (prefix_len is_name bs) bs (prefix_len-le-length is_name bs)) in
-    rw (get_or-take (prefix_len is_name bs) bs i 0 short) (leading_passes is_name bs i short))
-
 -- no semicolon stands in a lexeme
 no_semicolon : (b : ℕ) (bs : List ℕ) (k : ℕ) → k < lexeme b bs → is_semicolon (get_or bs k 0) ≡ false
 no_semicolon b bs k = by_kind (kind b)
   where
     named : k < prefix_len is_name bs → is_semicolon (get_or bs k 0) ≡ false
-    named lt = let is : is_name (get_or bs k 0) ≡ true = leading_passes is_name bs k lt in grind (arith, nat_tests)
+    named lt = let is : is_name (get_or bs k 0) ≡ true = prefix_len_passes is_name bs k 0 lt in grind (arith, nat_tests)
 
     by_kind : (j : Kind) → k < begins j bs → is_semicolon (get_or bs k 0) ≡ false
     by_kind Blank lt = absurd (omega arith)
@@ -62,16 +53,16 @@ module _ (text : List ℕ) (at b : ℕ) (bs : List ℕ) (here : drop at text ≡
   stops =
       let n : ℕ = prefix_len is_name bs in
       let long : at + length (b ∷ take n bs) - (at + 1) ≡ n = omega (arith, length-take-le n bs (prefix_len-le-length is_name bs)) in
-      rw (byte_after text at b bs here (at + length (b ∷ take n bs)) (omega arith), long) (leading_stops is_name bs (λ _. refl))
+      rw (byte_after text at b bs here (at + length (b ∷ take n bs)) (omega arith), long) (run_stops is_name bs refl)
 
   shape : (k : Kind) → k ≡ kind b → is_blank b ≡ false → is_semicolon b ≡ false → Shape text (at + length (b ∷ take (begins k bs) bs)) (b ∷ take (begins k bs) bs)
   shape Blank e solid plain = absurd (grind (arith, nat_tests))
   shape Comment e solid plain = absurd (grind (arith, nat_tests))
   shape Open e solid plain = bracket b (inl (grind (arith, nat_tests)))
   shape Close e solid plain = bracket b (inr (grind (arith, nat_tests)))
-  shape Colon e solid plain = let is : b ≡ 58 = grind (arith, nat_tests) in rw is (colon _ (names bs) stops)
-  shape Digit e solid plain = run b _ ((grind (arith, nat_tests)), names bs) stops
-  shape Initial e solid plain = run b _ ((grind (arith, nat_tests)), names bs) stops
+  shape Colon e solid plain = let is : b ≡ 58 = grind (arith, nat_tests) in rw is (colon _ (run_passes is_name bs) stops)
+  shape Digit e solid plain = run b _ ((grind (arith, nat_tests)), run_passes is_name bs) stops
+  shape Initial e solid plain = run b _ ((grind (arith, nat_tests)), run_passes is_name bs) stops
   shape Other e solid plain = stray b (sym e)
 
   -- a lexeme begins outside comments, and no comment goes on after one
@@ -104,7 +95,7 @@ module _ (text : List ℕ) (at b : ℕ) (bs : List ℕ) (here : drop at text ≡
       ended : ends_line (get_or text (at + 1 + prefix_len in_line bs) 0) ≡ true
       ended =
           let place : at + 1 + prefix_len in_line bs - (at + 1) ≡ prefix_len in_line bs = omega arith in
-          let stop : in_line (get_or bs (prefix_len in_line bs) 0) ≡ false = leading_stops in_line bs (λ le. absurd (omega arith)) in
+          let stop : in_line (get_or bs (prefix_len in_line bs) 0) ≡ false = prefix_len_stops in_line bs 0 lt in
           rw (byte_after text at b bs here (at + 1 + prefix_len in_line bs) (omega arith), place) (not-false _ stop)
 
 module _ (text : List ℕ) where

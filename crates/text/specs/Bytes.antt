@@ -1,12 +1,12 @@
 -- The classes of bytes.
-use Rattle.std.specs.Prelude.{ℕ, Bool, false, cond, not, ◌||◌, List, [], ◌∷◌, codes, ◌==◌}
+use Rattle.std.specs.Prelude.{ℕ, Bool, cond, not, ◌||◌, List, [], ◌∷◌, codes, ◌==◌}
+use Rattle.std.specs.List.{list_any}
 use Rattle.std.specs.Char.{is_ascii_digit, is_ascii_alphabetic}
 use Rattle.text.specs.declared.bytes.Kind.{Kind}
 use Rattle.text.specs.declared.bytes.Kind.TheVariants.{Blank, Comment, Open, Close, Colon, Digit, Initial, Other}
 
 abbrev pub among : List ℕ → ℕ → Bool
-among [] b = false
-among (x ∷ xs) b = b == x || among xs b
+among xs b = list_any (λ x. x == b) xs
 
 -- A name byte is a letter, a digit or one of seventeen marks.
 abbrev pub is_name : ℕ → Bool

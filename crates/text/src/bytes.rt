@@ -25,12 +25,12 @@ pub enum Kind {
 pub fn is_name(b: u8) -> bool
     ensures { result ≡ is_name b }
 {
-    match b as char {
-        'a'..='z' | 'A'..='Z' | '0'..='9' => true,
-        '~' | '!' | '@' | '$' | '%' | '^' | '&' | '*' | '_' => true,
-        '-' | '+' | '=' | '<' | '>' | '.' | '?' | '/' => true,
-        _ => false,
-    }
+    matches!(
+        b as char,
+        'a'..='z' | 'A'..='Z' | '0'..='9'
+            | '~' | '!' | '@' | '$' | '%' | '^' | '&' | '*' | '_'
+            | '-' | '+' | '=' | '<' | '>' | '.' | '?' | '/'
+    )
 }
 
 pub fn kind_of(b: u8) -> Kind

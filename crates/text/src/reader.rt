@@ -43,6 +43,7 @@ impl<'a> Reader<'a> {
     }
 
     /// The next token, or `None` at the end. At a fault the reader stays.
+    // No `Iterator`, since a reader that stays at its fault would give it for ever.
     pub fn next(&mut self) -> Result<Option<Token<'a>>, TokenFault>
         ensures { Next (left self.old) result (left self.new) }
     {
@@ -64,6 +65,7 @@ pub fn scan(text: &[u8]) -> Result<usize, TokenFault>
     ensures lexed { Lexed text.now }
 {
     let mut reader = Reader::new(text);
+    // A loop, since the reader is no iterator.
     let mut count = 0;
     while let Some(_) = reader.next()? {
         count += 1;

@@ -32,11 +32,16 @@ impl Class for Line {
     ghost holds = { in_line };
 
     fn has(b: u8) -> bool {
-        match b as char {
-            '\n' | '\r' => false,
-            _ => true,
-        }
+        !matches!(b as char, '\n' | '\r')
     }
+}
+
+/// How long the longest run of bytes of the class `C` is that `text` begins with.
+fn run_length<C: Class>(text: &[u8]) -> usize
+    ensures value { result ≡ prefix_len C.holds text.now }
+    ensures within { result ≤ length text.now }
+{
+    text.iter().take_while(|b| C::has(**b)).count()
 }
 
 /// Where the longest run of bytes of the class `C` from `from` on ends.
@@ -44,17 +49,14 @@ pub fn run_end<C: Class>(text: &[u8], from: usize) -> usize
     ensures value { result ≡ from + prefix_len C.holds (drop from text.now) }
     ensures within { from ≤ length text.now → result ≤ length text.now }
 {
-    let mut end = from;
-    while end < text.len() && C::has(text[end]) {
-        end += 1;
-    }
-    end
+    from + text.get(from..).map_or(0, |rest| run_length::<C>(rest))
 }
 
 /// Where the next part of `text` from `from` on begins: past blanks and comments.
 pub fn skip(text: &[u8], from: usize) -> usize
     ensures { Skips text.now from result }
 {
+    // An index, since the cursor jumps over whole comments.
     let mut at = from;
     while at < text.len() {
         match kind_of(text[at]) {

@@ -28,11 +28,11 @@ impl Token<'_> {
         ensures { result ≡ place (seen self.entry) }
     {
         match self {
-            Token::Open { at } => at,
-            Token::Close { at } => at,
-            Token::Symbol { at, .. } => at,
-            Token::Keyword { at, .. } => at,
-            Token::Numeral { at, .. } => at,
+            Token::Open { at }
+            | Token::Close { at }
+            | Token::Symbol { at, .. }
+            | Token::Keyword { at, .. }
+            | Token::Numeral { at, .. } => at,
         }
     }
 }
@@ -51,14 +51,13 @@ pub enum TokenFault {
 }
 
 impl TokenFault {
-    /// The refusal's number.
+    /// The refusal's number, by which people are told of it.
     pub fn number(self) -> u8
         ensures { result ≡ number_of self }
     {
         match self {
-            TokenFault::Stray { .. } => 10,
-            TokenFault::BareColon { .. } => 10,
-            TokenFault::TooLong { .. } => 10,
+            TokenFault::Stray { .. } | TokenFault::BareColon { .. } | TokenFault::TooLong { .. } =>
+                10,
             TokenFault::BadNumeral { .. } => 11,
         }
     }
@@ -68,10 +67,10 @@ impl TokenFault {
         ensures { result ≡ place_of self }
     {
         match self {
-            TokenFault::Stray { at } => at,
-            TokenFault::BareColon { at } => at,
-            TokenFault::TooLong { at } => at,
-            TokenFault::BadNumeral { at } => at,
+            TokenFault::Stray { at }
+            | TokenFault::BareColon { at }
+            | TokenFault::TooLong { at }
+            | TokenFault::BadNumeral { at } => at,
         }
     }
 }
@@ -96,15 +95,15 @@ impl fmt::Display for TokenFault {
 fn numeral(run: &[u8]) -> Option<u32>
     ensures { result ≡ (if is_numeral run.now then Some (value_on 0 run.now) else None) }
 {
-    if run.len() > 1 && run[0] == b'0' {
+    if let [b'0', _, ..] = run {
         return None;
     }
     let mut value = 0;
     for b in run {
-        match *b as char {
-            '0'..='9' => value = value * 10 + (*b - b'0') as u32,
-            _ => return None,
+        if !b.is_ascii_digit() {
+            return None;
         }
+        value = value * 10 + u32::from(*b - b'0');
         if value > LARGEST {
             return None;
         }
@@ -128,10 +127,9 @@ pub fn token_at<'a>(at: usize, bytes: &'a [u8]) -> Result<Token<'a>, TokenFault>
             text: &bytes[1..],
         }),
         Kind::Colon => Err(TokenFault::BareColon { at }),
-        Kind::Digit => match numeral(bytes) {
-            Some(value) => Ok(Token::Numeral { at, value }),
-            None => Err(TokenFault::BadNumeral { at }),
-        },
+        Kind::Digit => numeral(bytes)
+            .map(|value| Token::Numeral { at, value })
+            .ok_or(TokenFault::BadNumeral { at }),
         Kind::Initial => Ok(Token::Symbol { at, text: bytes }),
         Kind::Blank | Kind::Comment | Kind::Other => Err(TokenFault::Stray { at }),
     }

@@ -3,12 +3,6 @@ use Rattle.forms.proofs.Groups.{not_premises, not_args, no_group, group_follows,
 use Rattle.forms.proofs.Spelling.{tails}
 use Rattle.forms.proofs.proof.reason.Goals as goal
 
-pub returns-in_err-premises : goal.returns-in_err-premises
-returns-in_err-premises c =
-    rw c.from_residual-in_err-premises.ensures
-    (λ t fit e. let rest = tails c.in_ok-rule.ensures (tails c.in_ok-after_key.ensures e) in
-    no_group _ _ _ c.in_err-premises.ensures t.premises _ fit.0 (not_premises t.args t.end) rest)
-
 pub returns-in_err-args : goal.returns-in_err-args
 returns-in_err-args c =
     rw c.from_residual-in_err-args.ensures

@@ -1,6 +1,6 @@
-use Rattle.std.proofs.Common.{length, ap, arith}
+use Rattle.std.proofs.Common.{length, ap, inl, inr, arith}
 use Rattle.forms.proofs.Items.{is_symbol, no_symbol, is_name, is_numeral, no_term, no_head, inside_cases}
-use Rattle.forms.proofs.Lists.{begun, fewer, no_token, too_few, no_item, too_many, closed, onward}
+use Rattle.forms.proofs.Lists.{begun, fewer, no_token, too_few, no_item, too_many, onward}
 use Rattle.forms.proofs.terms.+item_items_term.Goals as goal
 
 pub item-returns-in-Symbol-first : goal.item-returns-in-Symbol-first
@@ -18,9 +18,6 @@ items-returns-in_err-first t c =
 
 pub items-returns-then-count-least : goal.items-returns-then-count-least
 items-returns-then-count-least t c = too_few _ _ _ _ _ c.loop-count.invariant _ _ _ c.in_ok-first.ensures c.in-Close.is c.if-count-least.true
-
-pub items-returns-else-count-least : goal.items-returns-else-count-least
-items-returns-else-count-least t c = closed _ _ _ _ _ c.loop-count.invariant _ _ _ c.in_ok-first.ensures c.in-Close.is c.if-count-least.false (omega arith)
 
 pub items-item-requires : goal.items-item-requires
 items-item-requires t c = (omega (arith, fewer _ _ _ _ c.loop-count.invariant, ap length c.in_ok-first.ensures), tt)
@@ -40,10 +37,7 @@ pub term-returns-in_err-inner-in-Open : goal.term-returns-in_err-inner-in-Open
 term-returns-in_err-inner-in-Open t c = rw c.from_residual.ensures (no_head _ _ _ c.in-Open.is c.in_err-inner-in-Open.ensures)
 
 pub term-returns-in-Symbol : goal.term-returns-in-Symbol
-term-returns-in-Symbol t c = is_name _ _ _ _ c.in-Symbol.is
-
-pub term-returns-in-Numeral : goal.term-returns-in-Numeral
-term-returns-in-Numeral t c = is_numeral _ _ _ _ c.in-Numeral.is
+term-returns-in-Symbol t c = elim c.in-Symbol.is [ inl s ↦ is_name _ _ _ _ s.2 | inr n ↦ is_numeral _ _ _ _ n.2 ]
 
 pub term-returns-in_ok-inner-in-Open : goal.term-returns-in_ok-inner-in-Open
 term-returns-in_ok-inner-in-Open t c =

@@ -1,8 +1,5 @@
-use Rattle.forms.proofs.Lists.{none_without, placed}
+use Rattle.forms.proofs.Lists.{none_without}
 use Rattle.forms.proofs.terms.placed_term.Goals as goal
 
 pub returns-in_err-first : goal.returns-in_err-first
 returns-in_err-first c = rw c.from_residual.ensures (none_without _ _ c.in_err-first.ensures)
-
-pub returns : goal.returns
-returns c = placed _ _ _ _ _ _ c.in_ok-first.ensures c.place.ensures c.in_ok-rest.ensures

@@ -1,29 +1,21 @@
-use Rattle.std.proofs.Common.{◌≡◌, take, ap, arith}
-use Rattle.pieces.specs.Positions.{line_after, column_after}
-use Rattle.pieces.proofs.Feeds.{at_feed, at_other, at_end, line_le, column_le}
+use Rattle.std.proofs.Common.{◌+◌, sym, ◌∙◌, arith}
+use Rattle.pieces.proofs.Feeds.{at_feed, at_other, column_le, part_at}
 use Rattle.pieces.proofs.lines.count_on.Goals as goal
-use Rattle.pieces.proofs.lines.count_on.Goals.{then-text-i-eq10, else-text-i-eq10}
+use Rattle.pieces.proofs.lines.count_on.Goals.{then-b-eq10, else-b-eq10}
 
-pub loop-i-init : goal.loop-i-init
-loop-i-init c =
-    let near = c.args.near in
-    let line : near.line ≡ line_after (take near.at c.args.text.now) = ap (λ p. p.line) c.requires.placed in
-    let column : near.column ≡ column_after (take near.at c.args.text.now) = ap (λ p. p.column) c.requires.placed in
-    (c.requires.low, line, column, omega (arith, line, line_le c.args.text.now near.at), omega (arith, column, column_le c.args.text.now near.at))
+pub overflow_add-column : goal.overflow_add-column
+overflow_add-column c =
+    omega (arith, c.loop-b.invariant.1, column_le c.args.text.now (c.min-start.result + c.loop-b.b-index))
 
-pub loop-i-preserved : goal.loop-i-preserved
-loop-i-preserved c =
-    let inv = c.loop-i.invariant in
-    elim c.if-text-i-eq10.branch [
-      | then-text-i-eq10 w ↦
-          let on = at_feed c.args.text.now _ _ _ c.if-i-text.true inv.1 inv.2 w.if-text-i-eq10.true in
-          (omega arith, omega (arith, on.0, w.line-is), omega (arith, on.1, w.column-is), omega (arith, w.line-is), omega (arith, w.column-is))
-      | else-text-i-eq10 w ↦
-          let on = at_other c.args.text.now _ _ _ c.if-i-text.true inv.1 inv.2 w.if-text-i-eq10.false in
-          (omega arith, omega (arith, on.0, w.line-is), omega (arith, on.1, w.column-is), omega (arith, w.line-is), omega (arith, w.column-is))
+pub loop-b-preserved : goal.loop-b-preserved
+loop-b-preserved c =
+    let inv = c.loop-b.invariant in
+    let here = part_at c.args.text.now c.min-start.result c.min-end.result c.loop-b.b-index (omega arith) in
+    elim c.if-b-eq10.branch [
+      | then-b-eq10 w ↦
+          let on = at_feed c.args.text.now _ _ _ (omega arith) inv.0 inv.1 _ (omega arith) (sym here ∙ w.if-b-eq10.true) in
+          (w.line-is ∙ on.0, w.column-is ∙ on.1)
+      | else-b-eq10 w ↦
+          let on = at_other c.args.text.now _ _ _ (omega arith) inv.0 inv.1 _ (omega arith) (λ e. w.if-b-eq10.false (here ∙ e)) in
+          (w.line-is ∙ on.0, w.column-is ∙ on.1)
     ]
-
-pub returns-else-i-text : goal.returns-else-i-text
-returns-else-i-text c =
-    let inv = c.loop-i.invariant in
-    at_end c.args.text.now _ c.args.at _ _ c.if-i-text.false inv.0 inv.1 inv.2

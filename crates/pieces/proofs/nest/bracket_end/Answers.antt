@@ -1,14 +1,22 @@
-use Rattle.std.proofs.Common.{rules}
-use Rattle.pieces.proofs.Closing.{closing_on, closing_done, closing_none}
+use Rattle.std.proofs.Common.{ap, arith}
+use Rattle.std.proofs.lemmas.List.{take_rest}
+use Rattle.pieces.specs.Pieces.{enclosed}
+use Rattle.pieces.proofs.Closing.{closing_on, closed, closing_none}
 use Rattle.pieces.proofs.nest.bracket_end.Goals as goal
 
-pub loop-end-preserved : goal.loop-end-preserved
-loop-end-preserved c =
-    let inv = c.loop-end.invariant in
-    closing_on _ _ c.args.text.now _ _ c.loop-end-test.true c.if-depth-gt0.true inv.0 inv.2 _ c.depth_behind-depth.ensures _ c.comment_behind-comment.ensures
+pub returns-then-depth-eq0-clause-value : goal.returns-then-depth-eq0-clause-value
+returns-then-depth-eq0-clause-value c =
+    let inv = c.loop-passed.invariant in
+    let end = closed _ _ _ _ _ c.loop-passed-test.true inv.0 inv.1 inv.2 _ c.depth_behind-depth.ensures _ c.comment_behind-comment.ensures c.if-depth-eq0.true in
+    omega (arith, ap enclosed (take_rest c.args.text.now c.args.from))
 
-pub returns-else-depth-gt0 : goal.returns-else-depth-gt0
-returns-else-depth-gt0 c = search (rules, closing_done)
+pub loop-passed-preserved : goal.loop-passed-preserved
+loop-passed-preserved c =
+    let inv = c.loop-passed.invariant in
+    let on = closing_on _ _ _ _ _ c.loop-passed-test.true inv.0 inv.1 inv.2 _ c.depth_behind-depth.ensures _ c.comment_behind-comment.ensures in
+    (omega (arith, c.if-depth-eq0.false), on.0, on.1)
 
-pub returns-after-loop-end : goal.returns-after-loop-end
-returns-after-loop-end c = search (rules, closing_none)
+pub returns-clause-value : goal.returns-clause-value
+returns-clause-value c =
+    let inv = c.loop-passed.invariant in
+    omega (arith, inv.2, closing_none c.loop-passed.depth c.loop-passed.comment _ _ c.loop-passed-test.false, ap enclosed (take_rest c.args.text.now c.args.from))

@@ -5,7 +5,4 @@ use Rattle.proofcheck.proofs.Counting.{Counted}
 use Rattle.proofcheck.proofs.file.check_file.Given as goal
 
 abbrev pub invariant-loop-piece : goal.invariant-loop-piece
-invariant-loop-piece l = Counted l.file.part (pieces l.text) (length l.text) l.report (left l.cutter)
-
-abbrev pub decreases-loop-piece : goal.decreases-loop-piece
-decreases-loop-piece l = length (left l.cutter)
+invariant-loop-piece l = Counted l.file.part (pieces l.text) (length l.text) l.report (left l.piece-iterator)

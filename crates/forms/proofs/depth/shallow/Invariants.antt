@@ -2,7 +2,7 @@ use Rattle.std.proofs.Common.{◌≡◌, ◌≤◌, length}
 use Rattle.text.specs.Reading.{left}
 use Rattle.text.specs.Tokens.{tokens}
 use Rattle.forms.specs.Faults.{too_deep}
-use Rattle.forms.proofs.depth.too_deep.Given as goal
+use Rattle.forms.proofs.depth.shallow.Given as goal
 
 abbrev pub invariant-loop-token : goal.invariant-loop-token
 invariant-loop-token l = (l.depth ≤ 32) × (too_deep l.depth (left l.reader) ≡ too_deep 0 (tokens l.text))
