@@ -1,14 +1,13 @@
 -- The closure that is worked out in rounds is the least set.
 use Rattle.std.specs.Prelude.{◌≡◌, ℕ, zero, suc, ◌<◌, ◌≤◌, Bool, true, false, cond, not, ◌&&◌, ◌||◌, List, [], ◌∷◌, ◌++◌, map, length, ◌≢◌, refl}
 use Rattle.std.proofs.Common.{inl, inr, sym, ap, subst, ◌∙◌, arith}
-use Rattle.std.specs.List.{ContainsAt as Has}
+use Rattle.std.specs.List.{ContainsAt as Has, list_any}
 use Rattle.std.proofs.ByRecursion.{has_append_left, has_append_right}
 use Rattle.std.proofs.lemmas.Bool.{cases_Bool, and_parts, and_from, or_left, or_right, both_ways, cond-true, cond-false, not-true, not_from_false}
 use Rattle.entries.specs.declared.entry.Literal.{Literal}
 use Rattle.entries.specs.Clauses.{complement_of, holds_literal}
 use Rattle.entries.specs.Equality.{same_literal}
 use Rattle.entries.proofs.Alike.{same_literal_decides}
-use Rattle.meaning.specs.Values.{some}
 use Rattle.chains.specs.Chain.{Derived}
 use Rattle.chains.specs.Chain.Derived.{denied, forced}
 use Rattle.chains.specs.Closure.{forces, literals_in, fresh, after, enough, closure, clashes, is_empty}
@@ -32,8 +31,8 @@ not_fresh premises known none p l hp hl others = elim (cases_Bool (holds_literal
         | inr n ↦ or_right (same_literal m l) (holds_literal known (complement_of m)) (has_holds known (complement_of m) (others m hm (λ e. both_ways (same_literal m l) n ((same_literal_decides m l).1 e))))
       ] in
       let y : forces known l p ≡ true = and_from (holds_literal p l) _ (has_holds p l hl) (has_every (λ m. same_literal m l || holds_literal known (complement_of m)) p each) in
-      absurd (none l (has_kept (λ l. not (holds_literal known l) && some (forces known l) premises) (literals_in premises) l (has_joined premises p l hp hl)
-      (and_from (not (holds_literal known l)) (some (forces known l) premises) (not_from_false (holds_literal known l) f) (has_some (forces known l) premises p hp y))))
+      absurd (none l (has_kept (λ l. not (holds_literal known l) && list_any (forces known l) premises) (literals_in premises) l (has_joined premises p l hp hl)
+      (and_from (not (holds_literal known l)) (list_any (forces known l) premises) (not_from_false (holds_literal known l) f) (has_some (forces known l) premises p hp y))))
 ]
 
 -- ---- how many of some literals are not known
@@ -110,8 +109,8 @@ module _ (premises : List (List Literal)) where
   fresh_falls : (known : List Literal) (x : Literal) (xs : List Literal) → fresh premises known ≡ x ∷ xs → lacking (fresh premises known ++ known) (literals_in premises) < lacking known (literals_in premises)
   fresh_falls known x xs e =
       let h : Has (fresh premises known) x = subst (λ (zs : List Literal). Has zs x) (sym e) (has_first x xs) in
-      let w = kept_has (λ l. not (holds_literal known l) && some (forces known l) premises) (literals_in premises) x h in
-      let new = not-true (holds_literal known x) (and_parts (not (holds_literal known x)) (some (forces known x) premises) w.1).0 in
+      let w = kept_has (λ l. not (holds_literal known l) && list_any (forces known l) premises) (literals_in premises) x h in
+      let new = not-true (holds_literal known x) (and_parts (not (holds_literal known x)) (list_any (forces known x) premises) w.1).0 in
       lacking_falls known (fresh premises known ++ known) (has_append_right (fresh premises known) known) (literals_in premises) x w.0 new (has_append_left (fresh premises known) known x h)
 
   -- one round more, where the rounds after it close what it leaves
@@ -161,8 +160,8 @@ chains_decided clause premises =
     let known = closure clause premises in (
       refutes_sound clause premises,
       (λ r. elim r [
-        | inl w ↦ or_left (clashes known) (some is_empty premises) (has_some (λ l. holds_literal known (complement_of l)) known w.0 (derived_closure clause premises w.0 w.1)
+        | inl w ↦ or_left (clashes known) (list_any is_empty premises) (has_some (λ l. holds_literal known (complement_of l)) known w.0 (derived_closure clause premises w.0 w.1)
             (has_holds known (complement_of w.0) (derived_closure clause premises (complement_of w.0) w.2)))
-        | inr h ↦ or_right (clashes known) (some is_empty premises) (has_some is_empty premises [] h refl)
+        | inr h ↦ or_right (clashes known) (list_any is_empty premises) (has_some is_empty premises [] h refl)
       ]),
     )

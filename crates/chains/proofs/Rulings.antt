@@ -1,6 +1,6 @@
 -- The rulings of the referee of chains: in words, and from what the search answers.
 use Rattle.std.specs.Prelude.{◌≡◌, ◌<◌, ◌≤◌, Bool, true, false, cond, ltb, List, [], length, ℤ, codes, Decides, ◌≢◌, nat_lt}
-use Rattle.std.proofs.Common.{inl, inr, sym, ap, ◌∙◌, arith}
+use Rattle.std.proofs.Common.{inl, inr, ap, ◌∙◌, arith}
 use Rattle.std.specs.List.{AllByRecursion}
 use Rattle.std.specs.Str.{bytes_eq}
 use Rattle.std.proofs.ByRecursion.{All-weaker}
@@ -15,7 +15,7 @@ use Rattle.chains.specs.Chain.{Refutes}
 use Rattle.chains.specs.Closure.{refutes}
 use Rattle.chains.specs.Rule.{knows_chains, chains, Named, Kept, RulingsInWords}
 use Rattle.chains.specs.Sets.{Placed}
-use Rattle.chains.specs.Lawful.{apart, judge_unknown, judge_argued, judge_bare_lem, judge_unmet, yes_parts}
+use Rattle.chains.specs.Lawful.{judge_unknown, judge_argued, judge_bare_lem, judge_unmet, yes_parts}
 use Rattle.chains.proofs.Closures.{chains_decided}
 
 module _ (q : Asked) where
@@ -44,12 +44,12 @@ module _ (q : Asked) where
 
   argued_why : chains.judge q ≡ Arguments → Named q × (q.args ≢ [])
   argued_why e = elim (cases_Bool (knows_chains q.rule)) [
-    | inr f ↦ absurd (apart Unmet Arguments (λ n. omega (arith, n)) (sym (judge_unknown q f) ∙ e))
+    | inr f ↦ cc (judge_unknown q f, e)
     | inl k ↦ elim (cases_Bool (nat_lt 0 (length q.args))) [
       | inl t ↦ (named_decides.0 k, λ nil. both_ways (nat_lt 0 (length q.args)) (nil_bare nil) t)
       | inr f ↦ elim (cases_Bool (refutes q.clause q.premises)) [
-        | inl r ↦ absurd (apart Yes Arguments (λ n. omega (arith, n)) (sym (judge_yes k f r) ∙ e))
-        | inr r ↦ absurd (apart Unmet Arguments (λ n. omega (arith, n)) (sym (judge_unmet q k f r) ∙ e))
+        | inl r ↦ cc (judge_yes k f r, e)
+        | inr r ↦ cc (judge_unmet q k f r, e)
       ]
     ]
   ]
@@ -62,12 +62,12 @@ module _ (q : Asked) where
 
   never_overflow : chains.judge q ≡ Overflow → ⊥
   never_overflow e = elim (cases_Bool (knows_chains q.rule)) [
-    | inr f ↦ apart Unmet Overflow (λ n. omega (arith, n)) (sym (judge_unknown q f) ∙ e)
+    | inr f ↦ cc (judge_unknown q f, e)
     | inl k ↦ elim (cases_Bool (nat_lt 0 (length q.args))) [
-      | inl t ↦ apart Arguments Overflow (λ n. omega (arith, n)) (sym (judge_argued q k t) ∙ e)
+      | inl t ↦ cc (judge_argued q k t, e)
       | inr f ↦ elim (cases_Bool (refutes q.clause q.premises)) [
-        | inl r ↦ apart Yes Overflow (λ n. omega (arith, n)) (sym (judge_yes k f r) ∙ e)
-        | inr r ↦ apart Unmet Overflow (λ n. omega (arith, n)) (sym (judge_unmet q k f r) ∙ e)
+        | inl r ↦ cc (judge_yes k f r, e)
+        | inr r ↦ cc (judge_unmet q k f r, e)
       ]
     ]
   ]

@@ -1,24 +1,22 @@
 -- A set of literals as a list of answers: reads, writes, and how a search goes on with it.
-use Rattle.std.proofs.Common.{◌≡◌, ℕ, zero, suc, ◌+◌, ◌-◌, ◌<◌, ◌≤◌, Bool, true, false, ◌⊎◌, List, [], ◌∷◌, ◌++◌, map, length, get_or, take, drop, set, replicate, Some, None, Option, sym, refl, ap, ◌∙◌, subst, inl, inr, suc-le-suc, arith}
-use Rattle.std.specs.List.{ContainsAt as Has, AllByRecursion}
+use Rattle.std.proofs.Common.{◌≡◌, ℕ, zero, suc, ◌+◌, ◌-◌, ◌<◌, Bool, true, false, not, ◌||◌, ◌⊎◌, List, [], ◌∷◌, ◌++◌, length, get_or, take, drop, set, replicate, reverse, Some, None, sym, refl, ap, ◌∙◌, subst, inl, inr, suc-le-suc, arith}
+use Rattle.std.specs.List.{ContainsAt as Has, AllByRecursion, find, list_all}
 use Rattle.std.proofs.ByRecursion.{all-has, All-get_or, has_get_or, has_append_left, has_push, has_push_cases}
-use Rattle.std.proofs.lemmas.List.{length-set, length-map, take-append-drop, get_or-set_same, get_or-set_other, take_more, drop_more, drop_all, get_or-map}
-use Rattle.std.proofs.lemmas.Bool.{cases_eq, both_ways, false≢true, true≢false}
-use Rattle.entries.specs.declared.entry.Clause.{Clause}
+use Rattle.std.proofs.lemmas.List.{take-append-drop, take_all, get_or-set_same, get_or-set_other, take_more, get_or-reverse, reverse-reverse, length-reverse}
+use Rattle.std.proofs.lemmas.Bool.{cases_eq, cases_Bool, both_ways, or_cases, or_parts, cond-true, cond-false, not-true, not-false, false≢true, true≢false}
 use Rattle.entries.specs.declared.entry.Literal.{Literal}
 use Rattle.entries.specs.Clauses.{complement_of}
-use Rattle.entries.specs.Views.{clause_of}
+use Rattle.entries.specs.Equality.{same_literal}
+use Rattle.entries.proofs.Alike.{same_literal_decides}
 use Rattle.meaning.specs.Truth.{positive}
 use Rattle.chains.specs.Chain.{Derived, Refutes}
 use Rattle.chains.specs.Chain.Derived.{denied, forced}
-use Rattle.chains.specs.Sets.{place_at, Placed, Holds, AllOut, ButOne, ButTwo, Sound, Consistent, missing, ClosedAt, Onward, Seeds}
-use Rattle.referee.proofs.Members.{has_first, has_cases}
+use Rattle.chains.specs.Sets.{place_at, place_of, Placed, holds, Holds, Clash, AllOut, ButOne, ButTwo, Sound, Consistent, missing, ClosedAt, Onward, Seeds}
+use Rattle.referee.proofs.Members.{has_first, has_on, has_cases, every_has}
+use Rattle.referee.proofs.Scans.{every_not}
 use Rattle.chains.specs.Members.{complement_twice, complement_own, complement_turn, same_or_not}
 
 -- ---- places
-abbrev pub place_of : Literal → ℕ
-place_of l = place_at l.negative l.term
-
 places : (x y : Bool) (m n : ℕ) → place_at x m ≡ place_at y n → (x ≡ y) × (m ≡ n)
 places true true m n e = (refl, omega arith)
 places true false m n e = absurd (omega arith)
@@ -31,11 +29,8 @@ same_place a b e =
     λ i. record { negative = h.0 i; term = h.1 i }
 
 -- ---- reads
-pub holds_at : (s : List Bool) (k : ℕ) (l : Literal) → k ≡ place_of l → get_or s k false ≡ true → Holds s l
-holds_at s k l e h = ap (λ n. get_or s n false) (sym e) ∙ h
-
-pub lacks_at : (s : List Bool) (k : ℕ) (l : Literal) → k ≡ place_of l → get_or s k false ≡ false → Holds s l → ⊥
-lacks_at s k l e h y = both_ways (get_or s k false) h (ap (λ n. get_or s n false) e ∙ y)
+pub lacks : (s : List Bool) (l : Literal) → holds s l ≡ false → Holds s l → ⊥
+lacks s l f y = both_ways (holds s l) f y
 
 -- ---- a write
 -- one more literal in the set: one fewer is missing
@@ -46,23 +41,27 @@ missing_set (false ∷ s) zero h e = omega arith
 missing_set (true ∷ s) (suc k) h e = missing_set s k (omega arith) e
 missing_set (false ∷ s) (suc k) h e = suc-le-suc (missing_set s k (omega arith) e)
 
-module _ (s : List Bool) (k : ℕ) (n : Literal) (e : k ≡ place_of n) (h : k < length s) where
-  holds_new : Holds (set s k true) n
-  holds_new = ap (λ m. get_or (set s k true) m false) (sym e) ∙ get_or-set_same s k true false h
+-- the set with one more literal
+abbrev pub with_one : List Bool → Literal → List Bool
+with_one s n = set s (place_of n) true
 
-  holds_cases : (l : Literal) → Holds (set s k true) l → Holds s l ⊎ (l ≡ n)
-  holds_cases l y = elim (cases_eq (place_of l) k) [
-    | inl q ↦ inr (same_place l n (q ∙ e))
-    | inr d ↦ inl (sym (get_or-set_other s k (place_of l) true false d) ∙ y)
+module _ (s : List Bool) (n : Literal) (h : place_of n < length s) where
+  holds_new : Holds (with_one s n) n
+  holds_new = get_or-set_same s (place_of n) true false h
+
+  holds_cases : (l : Literal) → Holds (with_one s n) l → Holds s l ⊎ (l ≡ n)
+  holds_cases l y = elim (cases_eq (place_of l) (place_of n)) [
+    | inl q ↦ inr (same_place l n q)
+    | inr d ↦ inl (sym (get_or-set_other s (place_of n) (place_of l) true false d) ∙ y)
   ]
 
-  holds_keep : (l : Literal) → Holds s l → Holds (set s k true) l
-  holds_keep l y = elim (cases_eq (place_of l) k) [
-    | inl q ↦ subst (Holds (set s k true)) (sym (same_place l n (q ∙ e))) holds_new
-    | inr d ↦ get_or-set_other s k (place_of l) true false d ∙ y
+  holds_keep : (l : Literal) → Holds s l → Holds (with_one s n) l
+  holds_keep l y = elim (cases_eq (place_of l) (place_of n)) [
+    | inl q ↦ subst (Holds (with_one s n)) (sym (same_place l n q)) holds_new
+    | inr d ↦ get_or-set_other s (place_of n) (place_of l) true false d ∙ y
   ]
 
-  consistent_set : Consistent s → (Holds s (complement_of n) → ⊥) → Consistent (set s k true)
+  consistent_set : Consistent s → (Holds s (complement_of n) → ⊥) → Consistent (with_one s n)
   consistent_set c free l y z = elim (holds_cases l y) [
     | inl a ↦ elim (holds_cases (complement_of l) z) [
       | inl b ↦ c l a b
@@ -88,80 +87,107 @@ take_read c i h = take_more c i (positive 0) h
 pub has_take : {X : Type 0} (i : ℕ) (xs : List X) (x : X) → Has (take i xs) x → Has xs x
 has_take {X} i xs x h = subst (λ (z : List X). Has z x) (take-append-drop i xs) (has_append_left (take i xs) (drop i xs) x h)
 
-pub has_clause : (cs : List Clause) (i : ℕ) (c : Clause) → i < length cs → c ≡ get_or cs i c → Has (map clause_of cs) (clause_of c)
-has_clause cs i c h e = (i, omega (arith, length-map cs clause_of), λ d. get_or-map clause_of cs i c d h ∙ ap clause_of (sym e))
+has_reverse : {X : Type 0} (xs : List X) (x : X) → Has xs x → Has (reverse xs) x
+has_reverse xs x h =
+    let k = h.0 in
+    let below : length xs - 1 - k < length (reverse xs) = omega (arith, h.1, length-reverse xs) in
+    let back : length xs - 1 - (length xs - 1 - k) ≡ k = omega (arith, h.1) in
+    (length xs - 1 - k, below, λ d. get_or-reverse xs (length xs - 1 - k) d (omega (arith, h.1)) ∙ ap (λ n. get_or xs n d) back ∙ h.2 d)
 
-pub last_clauses : (cs : List Clause) (i : ℕ) (c : Clause) → 0 < i → i ≤ length cs → c ≡ get_or cs (i - 1) c →
-    map clause_of (drop (i - 1) cs) ≡ clause_of c ∷ map clause_of (drop i cs)
-last_clauses cs i c lt le e =
-    let h : i - 1 < length cs = omega arith in
-    let n : i - 1 + 1 ≡ i = omega arith in
-    ap (map clause_of) (drop_more cs (i - 1) c h) ∙ ap (λ y. clause_of y ∷ map clause_of (drop (i - 1 + 1) cs)) (sym e) ∙ ap (λ k. clause_of c ∷ map clause_of (drop k cs)) n
-
-pub no_clauses : (cs : List Clause) → map clause_of (drop (length cs) cs) ≡ []
-no_clauses cs = ap (map clause_of) (drop_all (length cs) cs (omega arith))
+pub reverse_has : {X : Type 0} (xs : List X) (x : X) → Has (reverse xs) x → Has xs x
+reverse_has {X} xs x h = subst (λ (z : List X). Has z x) (reverse-reverse xs) (has_reverse (reverse xs) x h)
 
 -- ---- the first set
-pub seeds_none : (s : List Bool) → ((k : ℕ) → get_or s k false ≡ false) → Seeds [] s
-seeds_none s h = record {
-  all = λ l g. absurd (omega (arith, g.1));
-  only = λ l y. absurd (both_ways (get_or s (place_of l) false) (h (place_of l)) y);
-  consistent = λ l y z. both_ways (get_or s (place_of l) false) (h (place_of l)) y;
-}
-
-pub seeds_more : (xs : List Literal) (s : List Bool) (x : Literal) (k : ℕ) → k ≡ place_of (complement_of x) → k < length s → (Holds s x → ⊥) → Seeds xs s →
-    Seeds (xs ++ x ∷ []) (set s k true)
-seeds_more xs s x k e h f w = record {
-  all = λ l g. elim (has_push_cases xs x (complement_of l) g) [
-    | inl a ↦ holds_keep s k (complement_of x) e h l (w.all l a)
-    | inr q ↦ subst (Holds (set s k true)) (sym (complement_turn l x (sym q))) (holds_new s k (complement_of x) e h)
-  ];
-  only = λ l y. elim (holds_cases s k (complement_of x) e h l y) [
-    | inl a ↦ has_append_left xs (x ∷ []) (complement_of l) (w.only l a)
-    | inr q ↦ subst (Has (xs ++ x ∷ [])) (sym (ap complement_of q ∙ complement_twice x)) (has_push xs x)
-  ];
-  consistent = consistent_set s k (complement_of x) e h w.consistent (λ y. f (subst (Holds s) (complement_twice x) y));
-}
-
-pub unset : (n k : ℕ) → get_or (replicate n false) k false ≡ false
+unset : (n k : ℕ) → get_or (replicate n false) k false ≡ false
 unset zero k = refl
 unset (suc n) zero = refl
 unset (suc n) (suc k) = unset n k
 
--- ---- a premise, literal by literal
-abbrev pub Looked : List Literal → List Bool → Option Literal → Type 0
-Looked xs s None = AllOut xs s
-Looked xs s (Some u) = ButOne xs s u
+pub seeds_none : (n : ℕ) → Seeds [] (replicate n false)
+seeds_none n = record {
+  all = λ l g. absurd (omega (arith, g.1));
+  only = λ l y. absurd (lacks (replicate n false) l (unset n (place_of l)) y);
+  consistent = λ l y z. lacks (replicate n false) l (unset n (place_of l)) y;
+}
 
-module _ (xs : List Literal) (s : List Bool) (x : Literal) where
-  all_out_more : AllOut xs s → Holds s (complement_of x) → AllOut (xs ++ x ∷ []) s
-  all_out_more a y m h = elim (has_push_cases xs x m h) [ inl g ↦ a m g | inr e ↦ subst (λ z. Holds s (complement_of z)) e y ]
+pub seeds_more : (xs : List Literal) (s : List Bool) (x : Literal) → place_of (complement_of x) < length s → holds s x ≡ false → Seeds xs s →
+    Seeds (xs ++ x ∷ []) (with_one s (complement_of x))
+seeds_more xs s x h f w = record {
+  all = λ l g. elim (has_push_cases xs x (complement_of l) g) [
+    | inl a ↦ holds_keep s (complement_of x) h l (w.all l a)
+    | inr q ↦ subst (Holds (with_one s (complement_of x))) (sym (complement_turn l x (sym q))) (holds_new s (complement_of x) h)
+  ];
+  only = λ l y. elim (holds_cases s (complement_of x) h l y) [
+    | inl a ↦ has_append_left xs (x ∷ []) (complement_of l) (w.only l a)
+    | inr q ↦ subst (Has (xs ++ x ∷ [])) (sym (ap complement_of q ∙ complement_twice x)) (has_push xs x)
+  ];
+  consistent = consistent_set s (complement_of x) h w.consistent (λ y. lacks s x f (subst (Holds s) (complement_twice x) y));
+}
 
-  pub one_new : AllOut xs s → (Holds s (complement_of x) → ⊥) → ButOne (xs ++ x ∷ []) s x
-  one_new a f = record {
-    has = has_push xs x;
-    free = f;
-    others = λ m h ne. elim (has_push_cases xs x m h) [ inl g ↦ a m g | inr e ↦ absurd (ne (sym e)) ];
-  }
+-- two literals of the clause are complements
+pub clash_at : (clause xs : List Literal) (s : List Bool) (x : Literal) → ((l : Literal) → Has xs l → Has clause l) → Seeds xs s → Has clause x → Holds s x → Clash clause
+clash_at clause xs s x within w h y = (x, h, within (complement_of x) (w.only x y))
 
-  one_more : (u : Literal) → ButOne xs s u → Holds s (complement_of x) → ButOne (xs ++ x ∷ []) s u
-  one_more u f y = record {
-    has = has_append_left xs (x ∷ []) u f.has;
-    free = f.free;
-    others = λ m h ne. elim (has_push_cases xs x m h) [ inl g ↦ f.others m g ne | inr e ↦ subst (λ z. Holds s (complement_of z)) e y ];
-  }
+-- ---- a premise
+find_none : {X : Type 0} (f : X → Bool) (xs : List X) → find f xs ≡ None → (x : X) → Has xs x → f x ≡ false
+find_none f [] e x h = absurd (omega (arith, h.1))
+find_none f (y ∷ xs) e x h = elim (cases_Bool (f y)) [
+  | inl t ↦ absurd (cc (cond-true (f y) (Some y) (find f xs) t, e))
+  | inr n ↦ elim (has_cases y xs x h) [
+    | inl q ↦ ap f (sym q) ∙ n
+    | inr k ↦ find_none f xs (sym (cond-false (f y) (Some y) (find f xs) n) ∙ e) x k
+  ]
+]
 
-  -- the one again
-  pub one_again : (u : Literal) → ButOne xs s u → u ≡ x → ButOne (xs ++ x ∷ []) s u
-  one_again u f q = record {
-    has = has_append_left xs (x ∷ []) u f.has;
-    free = f.free;
-    others = λ m h ne. elim (has_push_cases xs x m h) [ inl g ↦ f.others m g ne | inr e ↦ absurd (ne (sym (q ∙ e))) ];
-  }
+find_some : {X : Type 0} (f : X → Bool) (xs : List X) (x : X) → find f xs ≡ Some x → Has xs x × (f x ≡ true)
+find_some f [] x e = absurd (cc)
+find_some {X} f (y ∷ xs) x e = elim (cases_Bool (f y)) [
+  | inl t ↦
+      let q : y ≡ x = cc (cond-true (f y) (Some y) (find f xs) t, e) in
+      (subst (Has (y ∷ xs)) q (has_first y xs), ap f (sym q) ∙ t)
+  | inr n ↦ let w = find_some f xs x (sym (cond-false (f y) (Some y) (find f xs) n) ∙ e) in (has_on y xs x w.0, w.1)
+]
 
-  pub looked_more : (o : Option Literal) → Looked xs s o → Holds s (complement_of x) → Looked (xs ++ x ∷ []) s o
-  looked_more None a y = all_out_more a y
-  looked_more (Some u) f y = one_more u f y
+-- whether a literal's complement is not in the set
+abbrev pub is_left : List Bool → Literal → Bool
+is_left s l = not (holds s (complement_of l))
+
+-- whether a literal is u, or its complement is in the set
+abbrev pub is_out : List Bool → Literal → Literal → Bool
+is_out s u l = same_literal l u || holds s (complement_of l)
+
+module _ (p : List Literal) (s : List Bool) where
+  pub left_none : find (is_left s) p ≡ None → AllOut p s
+  left_none e m h = not-false (holds s (complement_of m)) (find_none (is_left s) p e m h)
+
+  module _ (u : Literal) (e : find (is_left s) p ≡ Some u) where
+    free : Holds s (complement_of u) → ⊥
+    free y = lacks s (complement_of u) (not-true (holds s (complement_of u)) (find_some (is_left s) p u e).1) y
+
+    pub left_one : list_all (is_out s u) p ≡ true → ButOne p s u
+    left_one t = record {
+      has = (find_some (is_left s) p u e).0;
+      free = free;
+      others = λ m h ne. elim (or_cases (same_literal m u) (holds s (complement_of m)) (every_has (is_out s u) p t m h)) [
+        | inl q ↦ absurd (ne ((same_literal_decides m u).0 q))
+        | inr y ↦ y
+      ];
+    }
+
+    pub left_two : list_all (is_out s u) p ≡ false → ButTwo p s
+    left_two t =
+        let w = every_not (is_out s u) p u t in
+        let b = get_or p w.0 u in
+        let n = or_parts (same_literal b u) (holds s (complement_of b)) w.2 in
+        record {
+          a = u;
+          b = b;
+          has_a = (find_some (is_left s) p u e).0;
+          has_b = has_get_or p w.0 u w.1;
+          apart = λ q. both_ways (same_literal b u) n.0 ((same_literal_decides b u).1 (sym q));
+          free_a = free;
+          free_b = lacks s (complement_of b) n.1;
+        }
 
 -- ---- a pass: it began at s and is at s', past `done`
 pub record Walk (ps done : List (List Literal)) (s s' : List Bool) (grew : Bool) : Type 0 where
@@ -171,7 +197,7 @@ pub record Walk (ps done : List (List Literal)) (s s' : List Bool) (grew : Bool)
 
 pub walk_none : (ps : List (List Literal)) (s : List Bool) → Walk ps [] s s false
 walk_none ps s = record {
-  onward = record { len = refl; keeps = λ l y. y; sound = λ clause y. y; consistent = λ y. y; fewer = omega arith };
+  onward = record { keeps = λ l y. y; sound = λ clause y. y; consistent = λ y. y; fewer = omega arith };
   grown = λ e. absurd (false≢true e);
   still = λ e p h. absurd (omega (arith, h.1));
 }
@@ -198,38 +224,51 @@ closed_one p s u f y = record {
 }
 
 module _ (ps done : List (List Literal)) (s s' : List Bool) (g : Bool) (q : List Literal) where
-  walk_closed : Walk ps done s s' g → ClosedAt s' q → Walk ps (q ∷ done) s s' g
+  walk_closed : Walk ps done s s' g → ClosedAt s' q → Walk ps (done ++ q ∷ []) s s' g
   walk_closed w k = record {
     onward = w.onward;
     grown = w.grown;
-    still = λ e p h. elim (has_cases q done p h) [ inl r ↦ subst (ClosedAt s') r k | inr a ↦ w.still e p a ];
+    still = λ e p h. elim (has_push_cases done q p h) [ inl a ↦ w.still e p a | inr r ↦ subst (ClosedAt s') r k ];
   }
 
-  pub walk_two : Walk ps done s s' g → ButTwo q s' → Walk ps (q ∷ done) s s' g
+  pub walk_two : Walk ps done s s' g → ButTwo q s' → Walk ps (done ++ q ∷ []) s s' g
   walk_two w f = walk_closed w (closed_two q s' f)
 
-  pub walk_known : Walk ps done s s' g → (u : Literal) → ButOne q s' u → Holds s' u → Walk ps (q ∷ done) s s' g
+  pub walk_known : Walk ps done s s' g → (u : Literal) → ButOne q s' u → Holds s' u → Walk ps (done ++ q ∷ []) s s' g
   walk_known w u f y = walk_closed w (closed_one q s' u f y)
 
-  pub walk_new : Walk ps done s s' g → Has ps q → (u : Literal) → ButOne q s' u → (k : ℕ) → k ≡ place_of u → k < length s' → get_or s' k false ≡ false →
-      Walk ps (q ∷ done) s (set s' k true) true
-  walk_new w hq u f k e h y =
+  pub walk_new : Walk ps done s s' g → Has ps q → (u : Literal) → ButOne q s' u → place_of u < length s' → holds s' u ≡ false →
+      (more : List Bool) → more ≡ with_one s' u → Walk ps (done ++ q ∷ []) s more true
+  walk_new w hq u f h y more e = subst (λ z. Walk ps (done ++ q ∷ []) s z true) (sym e) (
       let o = w.onward in
-      let fewer : missing (set s' k true) < missing s' = missing_set s' k h y in
+      let fewer : missing (with_one s' u) < missing s' = missing_set s' (place_of u) h y in
       record {
         onward = record {
-          len = length-set s' k true ∙ o.len;
-          keeps = λ l z. holds_keep s' k u e h l (o.keeps l z);
-          sound = λ clause z l v. elim (holds_cases s' k u e h l v) [
+          keeps = λ l z. holds_keep s' u h l (o.keeps l z);
+          sound = λ clause z l v. elim (holds_cases s' u h l v) [
             | inl a ↦ o.sound clause z l a
             | inr r ↦ subst (Derived clause ps) (sym r) (forced hq f.has (λ m hm ne. o.sound clause z (complement_of m) (f.others m hm ne)))
           ];
-          consistent = λ z. consistent_set s' k u e h (o.consistent z) f.free;
+          consistent = λ z. consistent_set s' u h (o.consistent z) f.free;
           fewer = omega (arith, o.fewer);
         };
         grown = λ _. omega (arith, o.fewer);
         still = λ r. absurd (true≢false r);
-      }
+      })
+
+-- the next premise, from the last one on
+module _ (ps : List (List Literal)) (n : ℕ) (q : List Literal) (h : n < length (reverse ps)) (e : q ≡ get_or (reverse ps) n q) where
+  pub next_has : Has ps q
+  next_has = reverse_has ps q (subst (Has (reverse ps)) (sym e) (has_get_or (reverse ps) n q h))
+
+  pub walk_on : (m : ℕ) → m ≡ n + 1 → (s s' : List Bool) (g : Bool) → Walk ps (take n (reverse ps) ++ q ∷ []) s s' g → Walk ps (take m (reverse ps)) s s' g
+  walk_on m one s s' g w =
+      let more : take (n + 1) (reverse ps) ≡ take n (reverse ps) ++ q ∷ [] = take_more (reverse ps) n q h ∙ ap (λ z. take n (reverse ps) ++ z ∷ []) (sym e) in
+      subst (λ z. Walk ps z s s' g) (sym more ∙ ap (λ k. take k (reverse ps)) (sym one)) w
+
+-- the premises that were looked at, last first, are all
+pub walk_done : (ps : List (List Literal)) (n : ℕ) (s s' : List Bool) → n ≡ length (reverse ps) → Walk ps (take n (reverse ps)) s s' false → (p : List Literal) → Has ps p → ClosedAt s' p
+walk_done ps n s s' all w p h = w.still refl p (subst (λ z. Has z p) (sym (take_all n (reverse ps) (omega arith))) (has_reverse ps p h))
 
 -- each literal of a premise is out
 pub conflict : (ps : List (List Literal)) (s : List Bool) (q : List Literal) → Has ps q → AllOut q s → (clause : List Literal) → Sound clause ps s → Refutes clause ps
@@ -240,17 +279,15 @@ conflict ps s (x ∷ xs) hq a clause y =
 
 -- ---- between passes
 pub record State (clause : List Literal) (ps : List (List Literal)) (s : List Bool) : Type 0 where
-  pub len : length s ≡ 8192
   pub all : (l : Literal) → Has clause (complement_of l) → Holds s l
   pub sound : Sound clause ps s
   pub consistent : Consistent s
 
-pub state_first : (clause : List Literal) (ps : List (List Literal)) (s : List Bool) → length s ≡ 8192 → Seeds clause s → State clause ps s
-state_first clause ps s e w = record { len = e; all = w.all; sound = λ l y. denied (w.only l y); consistent = w.consistent }
+pub state_first : (clause : List Literal) (ps : List (List Literal)) (s : List Bool) → Seeds clause s → State clause ps s
+state_first clause ps s w = record { all = w.all; sound = λ l y. denied (w.only l y); consistent = w.consistent }
 
 pub state_more : (clause : List Literal) (ps : List (List Literal)) (s s' : List Bool) → State clause ps s → Onward ps s s' → State clause ps s'
 state_more clause ps s s' w o = record {
-  len = o.len ∙ w.len;
   all = λ l h. o.keeps l (w.all l h);
   sound = o.sound clause w.sound;
   consistent = o.consistent w.consistent;
@@ -267,15 +304,12 @@ state_still clause ps s w k (inl r) = w.consistent r.0 (complete clause ps s w.a
 state_still clause ps s w k (inr h) = (k [] h).some refl
 
 -- two literals of the clause are complements
-pub clash : (clause : List Literal) (ps : List (List Literal)) (l : Literal) → Has clause l → Has clause (complement_of l) → Refutes clause ps
-clash clause ps l h g = inl (l, denied g, denied (subst (Has clause) (sym (complement_twice l)) h))
+pub clash : (clause : List Literal) (ps : List (List Literal)) → Clash clause → Refutes clause ps
+clash clause ps (l, h, g) = inl (l, denied g, denied (subst (Has clause) (sym (complement_twice l)) h))
 
 -- ---- terms that have places
 pub placed_read : (c : List Literal) (i : ℕ) → i < length c → Placed c → (read c i).term < 4096
 placed_read c i h w = All-get_or (λ (m : Literal). m.term < 4096) c i (positive 0) h w
 
-pub placed_unit : (p : List Literal) (i : ℕ) (s : List Bool) (u : Literal) → ButOne (take i p) s u → Placed p → u.term < 4096
-placed_unit p i s u f w = all-has (λ (m : Literal). m.term < 4096) p u w (has_take i p u f.has)
-
-pub placed_one : (ps : List (List Literal)) (p q : List Literal) (s : List Bool) (u : Literal) → p ≡ q → Has ps q → ButOne p s u → AllByRecursion Placed ps → u.term < 4096
-placed_one ps p q s u e h f w = all-has (λ (m : Literal). m.term < 4096) p u (subst Placed (sym e) (all-has Placed ps q w h)) f.has
+pub placed_one : (ps : List (List Literal)) (q : List Literal) (s : List Bool) (u : Literal) → Has ps q → ButOne q s u → AllByRecursion Placed ps → u.term < 4096
+placed_one ps q s u h f w = all-has (λ (m : Literal). m.term < 4096) q u (all-has Placed ps q w h) f.has

@@ -1,13 +1,12 @@
 -- What the closure holds is derived.
 use Rattle.std.specs.Prelude.{◌≡◌, ℕ, zero, suc, true, not, ◌&&◌, ◌||◌, List, [], ◌∷◌, ◌++◌, map, refl}
 use Rattle.std.proofs.Common.{inl, inr, subst}
-use Rattle.std.specs.List.{ContainsAt as Has}
+use Rattle.std.specs.List.{ContainsAt as Has, list_any, list_all}
 use Rattle.std.proofs.lemmas.Bool.{and_parts, or_cases, false≢true}
 use Rattle.entries.specs.declared.entry.Literal.{Literal}
 use Rattle.entries.specs.Clauses.{complement_of, holds_literal}
 use Rattle.entries.specs.Equality.{same_literal}
 use Rattle.entries.proofs.Alike.{same_literal_decides}
-use Rattle.meaning.specs.Values.{some, every}
 use Rattle.chains.specs.Chain.{Derived, Refutes}
 use Rattle.chains.specs.Chain.Derived.{denied, forced}
 use Rattle.chains.specs.Closure.{forces, literals_in, fresh, after, enough, closure, clashes, is_empty, refutes}
@@ -20,7 +19,7 @@ module _ (clause : List Literal) (premises : List (List Literal)) where
 
   forced_derived : (known : List Literal) → AllDerived known → (l : Literal) (p : List Literal) → Has premises p → forces known l p ≡ true → Derived clause premises l
   forced_derived known ok l p hp e =
-      let t = and_parts (holds_literal p l) (every (λ m. same_literal m l || holds_literal known (complement_of m)) p) e in
+      let t = and_parts (holds_literal p l) (list_all (λ m. same_literal m l || holds_literal known (complement_of m)) p) e in
       forced hp (holds_has p l t.0) (λ m hm ne.
       elim (or_cases (same_literal m l) (holds_literal known (complement_of m)) (every_has (λ m. same_literal m l || holds_literal known (complement_of m)) p t.1 m hm)) [
         | inl s ↦ absurd (ne ((same_literal_decides m l).0 s))
@@ -30,8 +29,8 @@ module _ (clause : List Literal) (premises : List (List Literal)) where
   fresh_derived : (known : List Literal) → AllDerived known → AllDerived (fresh premises known ++ known)
   fresh_derived known ok l h = elim (has_append_cases (fresh premises known) known l h) [
     | inl f ↦
-        let w = kept_has (λ l. not (holds_literal known l) && some (forces known l) premises) (literals_in premises) l f in
-        let t = and_parts (not (holds_literal known l)) (some (forces known l) premises) w.1 in
+        let w = kept_has (λ l. not (holds_literal known l) && list_any (forces known l) premises) (literals_in premises) l f in
+        let t = and_parts (not (holds_literal known l)) (list_any (forces known l) premises) w.1 in
         let s = some_has (forces known l) premises t.1 in
         forced_derived known ok l s.0 s.1 s.2
     | inr k ↦ ok l k
@@ -52,7 +51,7 @@ empty_is (l ∷ p) e = absurd (false≢true e)
 pub refutes_sound : (clause : List Literal) (premises : List (List Literal)) → refutes clause premises ≡ true → Refutes clause premises
 refutes_sound clause premises t =
     let known = closure clause premises in
-    elim (or_cases (clashes known) (some is_empty premises) t) [
+    elim (or_cases (clashes known) (list_any is_empty premises) t) [
       | inl c ↦
           let w = some_has (λ l. holds_literal known (complement_of l)) known c in
           inl (w.0, closure_derived clause premises w.0 w.1, closure_derived clause premises (complement_of w.0) (holds_has known (complement_of w.0) w.2))

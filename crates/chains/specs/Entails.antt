@@ -1,11 +1,11 @@
 -- The law of chains: what follows from true clauses is true.
 use Rattle.std.specs.Prelude.{◌≡◌, ℕ, Bool, true, false, not, List, [], ◌≢◌}
+use Rattle.std.specs.List.{list_all}
 use Rattle.std.proofs.Common.{inl, inr, sym, ap, ◌∙◌}
 use Rattle.std.proofs.lemmas.Bool.{cases_Bool, both_ways, not-false, false≢true}
 use Rattle.entries.specs.declared.entry.Literal.{Literal}
 use Rattle.entries.specs.Clauses.{complement_of}
 use Rattle.meaning.specs.Truth.{signed}
-use Rattle.meaning.specs.Values.{every}
 use Rattle.meaning.proofs.Literals.{signed_not}
 use Rattle.chains.specs.Chain.{Derived, Refutes}
 use Rattle.chains.specs.Chain.Derived.{denied, forced}
@@ -23,7 +23,7 @@ module _ (truth : ℕ → Bool) where
   never_both : (l : Literal) → holds truth l ≡ true → holds truth (complement_of l) ≢ true
   never_both l t u = both_ways (holds truth (complement_of l)) (complement_holds l ∙ ap not t) u
 
-  module _ (clause : List Literal) (premises : List (List Literal)) (out : true_under truth clause ≡ false) (given : every (true_under truth) premises ≡ true) where
+  module _ (clause : List Literal) (premises : List (List Literal)) (out : true_under truth clause ≡ false) (given : list_all (true_under truth) premises ≡ true) where
     -- where the clause is not true and the premises are, each literal of the set is true
     derived_holds : (l : Literal) → Derived clause premises l → holds truth l ≡ true
     derived_holds l (denied h) = not-false (holds truth l) (sym (complement_holds l) ∙ some_not (holds truth) clause out (complement_of l) h)

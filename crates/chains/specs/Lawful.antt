@@ -1,26 +1,15 @@
 -- The referee of chains keeps the law, and is modest.
-use Rattle.std.specs.Prelude.{◌≡◌, ℕ, true, false, length, ◌≢◌, nat_lt}
-use Rattle.std.proofs.Common.{inl, inr, sym, ap, ◌∙◌, arith}
+use Rattle.std.specs.Prelude.{◌≡◌, true, false, length, nat_lt}
+use Rattle.std.proofs.Common.{inl, inr, ◌∙◌}
 use Rattle.std.proofs.lemmas.Bool.{cases_Bool, cond-true, cond-false}
 use Rattle.meaning.specs.Values.{is_true}
 use Rattle.referee.specs.Meaning.{Lawful, Modest}
 use Rattle.referee.specs.Questions.{Asked}
-use Rattle.referee.specs.declared.ruling.Ruling.{Ruling}
-use Rattle.referee.specs.declared.ruling.Ruling.TheVariants.{Yes, Unmet, Arguments, Overflow}
+use Rattle.referee.specs.declared.ruling.Ruling.TheVariants.{Yes, Unmet, Arguments}
 use Rattle.chains.specs.Closure.{refutes}
 use Rattle.chains.specs.Rule.{knows_chains, judge_chain, judge_bare, chains}
 use Rattle.chains.specs.Derives.{refutes_sound}
 use Rattle.chains.specs.Entails.{chain_law}
-
--- rulings differ where their numbers do
-abbrev pub kind : Ruling → ℕ
-kind Yes = 0
-kind Unmet = 1
-kind Arguments = 2
-kind Overflow = 3
-
-pub apart : (a b : Ruling) → (kind a ≢ kind b) → a ≢ b
-apart a b n e = n (ap kind e)
 
 module _ (q : Asked) where
   pub judge_unknown : knows_chains q.rule ≡ false → chains.judge q ≡ Unmet
@@ -38,12 +27,12 @@ module _ (q : Asked) where
   -- what gets a yes has one of the names and no argument, and follows
   pub yes_parts : chains.judge q ≡ Yes → (knows_chains q.rule ≡ true) × (nat_lt 0 (length q.args) ≡ false) × (refutes q.clause q.premises ≡ true)
   yes_parts e = elim (cases_Bool (knows_chains q.rule)) [
-    | inr f ↦ absurd (apart Unmet Yes (λ n. omega (arith, n)) (sym (judge_unknown f) ∙ e))
+    | inr f ↦ cc (judge_unknown f, e)
     | inl k ↦ elim (cases_Bool (nat_lt 0 (length q.args))) [
-      | inl t ↦ absurd (apart Arguments Yes (λ n. omega (arith, n)) (sym (judge_argued k t) ∙ e))
+      | inl t ↦ cc (judge_argued k t, e)
       | inr f ↦ elim (cases_Bool (refutes q.clause q.premises)) [
         | inl r ↦ (k, f, r)
-        | inr r ↦ absurd (apart Unmet Yes (λ n. omega (arith, n)) (sym (judge_unmet k f r) ∙ e))
+        | inr r ↦ cc (judge_unmet k f r, e)
       ]
     ]
   ]

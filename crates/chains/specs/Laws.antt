@@ -1,22 +1,21 @@
 -- What chains are worth.
 use Rattle.std.specs.Prelude.{◌≡◌, ℕ, Bool, true, List, Decides, ◌≢◌}
-use Rattle.std.specs.List.{ContainsAt as Has}
+use Rattle.std.specs.List.{ContainsAt as Has, list_any, list_all}
 use Rattle.entries.specs.declared.entry.Literal.{Literal}
 use Rattle.entries.specs.Clauses.{complement_of, holds_literal}
 use Rattle.meaning.specs.Truth.{signed}
-use Rattle.meaning.specs.Values.{some, every}
 use Rattle.chains.specs.Chain.{Derived, Refutes}
 use Rattle.chains.specs.Closure.{closure, refutes}
 
 -- A clause is true where one of its literals is; `truth` says which terms are true.
 abbrev pub true_under : (ℕ → Bool) → List Literal → Bool
-true_under truth clause = some (λ (l : Literal). signed l.negative (truth l.term)) clause
+true_under truth clause = list_any (λ (l : Literal). signed l.negative (truth l.term)) clause
 
 -- Whatever terms are true: if all premises are, then so is a clause that follows from them by a chain.
 abbrev pub ChainLaw : Type 0
 ChainLaw =
     (clause : List Literal) (premises : List (List Literal)) → Refutes clause premises →
-    (truth : ℕ → Bool) → every (true_under truth) premises ≡ true → true_under truth clause ≡ true
+    (truth : ℕ → Bool) → list_all (true_under truth) premises ≡ true → true_under truth clause ≡ true
 
 -- A set of literals that holds the complements of the clause's literals and that, where the other literals of a premise all have
 -- their complement in it, holds the remaining one.

@@ -1,5 +1,5 @@
 -- A set of literals as a list of 8,192 answers, and what the parts of the search say of it.
-use Rattle.std.specs.Prelude.{◌≡◌, ℕ, suc, ◌+◌, ◌*◌, ◌<◌, ◌≤◌, Bool, true, false, cond, List, [], ◌∷◌, length, ◌≢◌, slice_index_or}
+use Rattle.std.specs.Prelude.{◌≡◌, ℕ, suc, ◌+◌, ◌*◌, ◌<◌, ◌≤◌, Bool, true, false, cond, List, [], ◌∷◌, ◌≢◌, slice_index_or}
 use Rattle.std.specs.List.{ContainsAt as Has, AllByRecursion}
 use Rattle.entries.specs.declared.entry.Literal.{Literal}
 use Rattle.entries.specs.Clauses.{complement_of}
@@ -13,9 +13,17 @@ use Rattle.chains.specs.declared.outcome.Outcome.TheVariants as outcome
 abbrev pub place_at : Bool → ℕ → ℕ
 place_at negative term = cond negative (term * 2 + 1) (term * 2)
 
+-- The place of a literal's answer.
+abbrev pub place_of : Literal → ℕ
+place_of l = place_at l.negative l.term
+
+-- Whether the literal is in the set.
+abbrev pub holds : List Bool → Literal → Bool
+holds set l = slice_index_or set (place_of l) false
+
 -- The literal is in the set.
 abbrev pub Holds : List Bool → Literal → Type 0
-Holds set l = slice_index_or set (place_at l.negative l.term) false ≡ true
+Holds set l = holds set l ≡ true
 
 -- The terms of the literals have places in the set.
 abbrev pub Placed : List Literal → Type 0
@@ -71,7 +79,6 @@ pub record ClosedAt (set : List Bool) (p : List Literal) : Type 0 where
 
 -- The set has grown by what the premises force, and by nothing else.
 pub record Onward (premises : List (List Literal)) (old new : List Bool) : Type 0 where
-  pub len : length new ≡ length old
   pub keeps : (l : Literal) → Holds old l → Holds new l
   pub sound : (clause : List Literal) → Sound clause premises old → Sound clause premises new
   pub consistent : Consistent old → Consistent new
@@ -94,7 +101,6 @@ pub record Seeds (clause : List Literal) (set : List Bool) : Type 0 where
   pub only : (l : Literal) → Holds set l → Has clause (complement_of l)
   pub consistent : Consistent set
 
--- What the first set is: the complements, unless two literals of the clause are complements.
-abbrev pub Seeded : List Literal → List Bool → Bool → Type 0
-Seeded clause set true = Seeds clause set
-Seeded clause set false = (l : Literal) × Has clause l × Has clause (complement_of l)
+-- Two literals of the clause are complements.
+abbrev pub Clash : List Literal → Type 0
+Clash clause = (l : Literal) × Has clause l × Has clause (complement_of l)

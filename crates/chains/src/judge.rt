@@ -3,8 +3,8 @@ ghost use Rattle.std.specs.Prelude.{◌≡◌};
 ghost use Rattle.chains.specs.Rule.{chains};
 ghost use Rattle.chains.specs.Lawful.{chains_lawful, chains_modest};
 
-use crate::search::follows;
-use referee::{Question, Referee, Ruling, same_name};
+use crate::search::Chain;
+use referee::{Question, Referee, Ruling};
 
 /// The referee of `resolution` and `th_resolution`.
 #[derive(Clone, Copy)]
@@ -18,7 +18,7 @@ impl Referee for Chains {
     ghost modest = { λ x. chains_modest };
 
     fn knows(&self, rule: &[u8]) -> bool {
-        same_name(rule, b"resolution") || same_name(rule, b"th_resolution")
+        matches!(rule, b"resolution" | b"th_resolution")
     }
 
     fn judge(&self, question: Question<'_>) -> Ruling {
@@ -28,7 +28,11 @@ impl Referee for Chains {
         if question.args.len() > 0 {
             return Ruling::Arguments;
         }
-        if follows(question.clause, question.premises) {
+        let chain = Chain {
+            clause: question.clause,
+            premises: question.premises,
+        };
+        if chain.follows() {
             Ruling::Yes
         } else {
             Ruling::Unmet

@@ -2,6 +2,7 @@
 #![tactic(auto)]
 
 mod judge;
+mod known;
 mod outcome;
 mod search;
 

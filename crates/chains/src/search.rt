@@ -1,115 +1,98 @@
 //! The search for a literal and its complement: a set of literals that grows until no premise adds
 //! to it.
-ghost use Rattle.std.specs.Prelude.{◌≡◌, ℕ, ◌<◌, true, false, map, length, Decides, slice_index_or};
+ghost use Rattle.std.specs.Prelude.{Decides, MatchOption};
 ghost use Rattle.std.specs.List.{AllByRecursion};
-ghost use Rattle.entries.specs.Views.{clause_of};
-ghost use Rattle.chains.specs.Chain.{Refutes};
-ghost use Rattle.chains.specs.Sets.{place_at, Placed, Left, Passed, Seeded};
+ghost use Rattle.std.proofs.Props.{props};
+ghost use Rattle.chains.specs.Sets.{Placed, Left};
 
+use crate::known::Known;
 use crate::outcome::{Outcome, Rest};
-use entries::limits::MOST_TERMS;
 use entries::{Clause, Literal};
 
-/// The places of a set: two for each term.
-const PLACES: usize = 2 * MOST_TERMS;
-
-/// The place of a literal in a set.
-fn place(negative: bool, term: u16) -> usize
-    requires { term < 4096 }
-    ensures is { result ≡ place_at negative term }
-    ensures within { result < 8192 }
-{
-    if negative {
-        term as usize * 2 + 1
-    } else {
-        term as usize * 2
-    }
-}
-
 /// What is left of a premise under a set.
-fn look(premise: &[Literal], set: &[bool]) -> Rest
-    requires len { length set.now ≡ 8192 }
-    requires placed { Placed premise.now }
-    ensures { Left premise.now set.now result }
+fn look(premise: &[Literal], known: &Known) -> Rest
+    ensures { Left premise.now known.now result }
 {
-    let mut unit: Option<Literal> = None;
-    for l in premise {
-        let l = *l;
-        if set[place(!l.negative, l.term)] {
-            continue;
-        }
-        match unit {
-            None => unit = Some(l),
-            Some(u) => {
-                if place(u.negative, u.term) != place(l.negative, l.term) {
-                    return Rest::More;
-                }
-            }
-        }
-    }
-    match unit {
+    match premise.iter().find(|l| !known.has(l.complement())) {
         None => Rest::Nothing,
-        Some(u) => Rest::One(u),
-    }
-}
-
-/// Puts the complements of the clause's literals into the empty set, and says whether no two of
-/// them are complements.
-fn seed(clause: &[Literal], set: &mut [bool]) -> bool
-    requires len { length set.old ≡ 8192 }
-    requires empty { (k : ℕ) → slice_index_or set.old k false ≡ false }
-    requires placed { Placed clause.now }
-    ensures { Seeded clause.now set.new result }
-{
-    for l in clause {
-        let l = *l;
-        if set[place(l.negative, l.term)] {
-            return false;
-        }
-        set[place(!l.negative, l.term)] = true;
-    }
-    true
-}
-
-/// Looks at each premise once, and adds what it forces to the set. A chain names its premises in the
-/// order in which they are resolved, so what the last ones force helps the ones before them.
-fn pass(premises: &[Clause], set: &mut [bool]) -> Outcome
-    requires len { length set.old ≡ 8192 }
-    requires placed { AllByRecursion Placed (map clause_of premises.now) }
-    ensures { Passed (map clause_of premises.now) set.old set.new result }
-{
-    let mut grew = false;
-    for i in (0..premises.len()).rev() {
-        match look(premises[i].literals(), set) {
-            Rest::Nothing => return Outcome::Conflict,
-            Rest::One(l) => {
-                let k = place(l.negative, l.term);
-                if !set[k] {
-                    set[k] = true;
-                    grew = true;
-                }
+        Some(one) => {
+            if premise
+                .iter()
+                .all(|l| l == one || known.has(l.complement()))
+            {
+                Rest::One(*one)
+            } else {
+                Rest::More
             }
-            Rest::More => {}
         }
     }
-    if grew { Outcome::Grew } else { Outcome::Still }
 }
 
-/// Whether the clause follows from the premises by a chain.
-pub(crate) fn follows(clause: &[Literal], premises: &[Clause]) -> bool
-    requires clause { Placed clause.now }
-    requires premises { AllByRecursion Placed (map clause_of premises.now) }
-    ensures { Decides result (Refutes clause.now (map clause_of premises.now)) }
-{
-    let mut set = [false; PLACES];
-    if !seed(clause, &mut set) {
-        return true;
+/// A clause, and the premises from which it may follow by a chain.
+#[derive(Clone, Copy)]
+pub(crate) struct Chain<'a> {
+    pub(crate) clause: &'a [Literal],
+    pub(crate) premises: &'a [Clause],
+    ghost clause_placed: { Placed clause.now } by { Prim.hlevel props },
+    ghost premises_placed: { AllByRecursion Placed premises.now } by { Prim.hlevel props },
+}
+
+impl<'a> Chain<'a> {
+    ghost use Rattle.chains.specs.Chain.{Refutes};
+    ghost use Rattle.std.proofs.Props.{props};
+    ghost use Rattle.chains.specs.Sets.{Clash, Seeds, Passed};
+
+    /// The complements of the clause's literals, unless two of these are complements.
+    fn seed(&self) -> Option<Known>
+        ensures { MatchOption result (Clash self.now.clause.now) (Seeds self.now.clause.now) }
+    {
+        let mut known = Known::empty();
+        // A loop, since each literal is looked up in what those before it gave.
+        for literal in self.clause {
+            if known.has(*literal) {
+                return None;
+            }
+            let denied = literal.complement();
+            known.add(denied);
+        }
+        Some(known)
     }
-    loop {
-        match pass(premises, &mut set) {
-            Outcome::Conflict => return true,
-            Outcome::Still => return false,
-            Outcome::Grew => {}
+
+    /// Looks at each premise once, and adds what it forces to the set. A chain names its premises in
+    /// the order in which they are resolved, so what the last ones force helps the ones before them.
+    fn pass(&self, known: &mut Known) -> Outcome
+        ensures { Passed self.now.premises.now known.old known.new result }
+    {
+        let mut grew = false;
+        // A loop, since each premise is looked at under what those behind it gave.
+        for premise in self.premises.iter().rev() {
+            match look(premise.literals(), known) {
+                Rest::Nothing => return Outcome::Conflict,
+                Rest::One(literal) => {
+                    if !known.has(literal) {
+                        known.add(literal);
+                        grew = true;
+                    }
+                }
+                Rest::More => {}
+            }
+        }
+        if grew { Outcome::Grew } else { Outcome::Still }
+    }
+
+    /// Whether the clause follows from the premises by a chain.
+    pub(crate) fn follows(&self) -> bool
+        ensures { Decides result (Refutes self.now.clause.now self.now.premises.now) }
+    {
+        let Some(mut known) = self.seed() else {
+            return true;
+        };
+        loop {
+            match self.pass(&mut known) {
+                Outcome::Conflict => return true,
+                Outcome::Still => return false,
+                Outcome::Grew => {}
+            }
         }
     }
 }

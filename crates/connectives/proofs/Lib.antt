@@ -1,5 +1,5 @@
 pub mod Rows
-pub mod Premises
 pub mod Turns
 pub mod Seats
 pub mod Worded
+pub mod Clauses

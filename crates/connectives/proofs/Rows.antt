@@ -1,21 +1,16 @@
--- The steps of the search for a rule by its name.
-use Rattle.std.proofs.Common.{◌≡◌, ℕ, ◌+◌, ◌<◌, ◌≤◌, true, false, cond, List, map, length, get_or, drop, Some, None, Option, sym, ◌∙◌}
+-- A rule that is found in the code's table, as the definition's table has it.
+use Rattle.std.proofs.Common.{◌≡◌, ℕ, List, [], ◌∷◌, map, refl, sym, ◌∙◌, ap, inl, inr}
+use Rattle.std.specs.Prelude.{find}
+use Rattle.std.specs.Option.{option_map}
 use Rattle.std.specs.Str.{bytes_eq}
-use Rattle.std.proofs.lemmas.List.{at_drop_more, at_drop_all}
-use Rattle.std.proofs.lemmas.Bool.{cond-true, cond-false}
+use Rattle.std.proofs.lemmas.Bool.{cases_Bool, cond-true, cond-false}
 use Rattle.connectives.specs.declared.table.Rule.{Rule as CodeRule}
-use Rattle.connectives.specs.Table.{Rule, named}
+use Rattle.connectives.specs.Table.{named}
 use Rattle.connectives.specs.Search.{seen}
 
-module _ (want : Option Rule) (name : List ℕ) (rs : List CodeRule) (i : ℕ) (inv : want ≡ named (map seen (drop i rs)) name) where
-  step : (d : CodeRule) → i < length rs → want ≡ cond (bytes_eq name (get_or rs i d).name.now) (Some (seen (get_or rs i d))) (named (map seen (drop (i + 1) rs)) name)
-  step d h = inv ∙ at_drop_more (λ z. named (map seen z) name) rs i d h
-
-  pub rule_found : (d : CodeRule) → i < length rs → true ≡ bytes_eq name (get_or rs i d).name.now → Some (seen (get_or rs i d)) ≡ want
-  rule_found d h e = sym (step d h ∙ cond-true _ _ _ (sym e))
-
-  pub rule_next : (d : CodeRule) → i < length rs → false ≡ bytes_eq name (get_or rs i d).name.now → want ≡ named (map seen (drop (i + 1) rs)) name
-  rule_next d h e = step d h ∙ cond-false _ _ _ (sym e)
-
-  pub rule_none : length rs ≤ i → None ≡ want
-  rule_none h = sym (inv ∙ at_drop_all (λ z. named (map seen z) name) rs i h)
+pub found_seen : (name : List ℕ) (rs : List CodeRule) → option_map seen (find (λ (r : CodeRule). bytes_eq name r.name.now) rs) ≡ named (map seen rs) name
+found_seen name [] = refl
+found_seen name (r ∷ rs) = elim (cases_Bool (bytes_eq name r.name.now)) [
+  | inl e ↦ ap (option_map seen) (cond-true _ _ _ e) ∙ sym (cond-true _ _ _ e)
+  | inr e ↦ ap (option_map seen) (cond-false _ _ _ e) ∙ found_seen name rs ∙ sym (cond-false _ _ _ e)
+]

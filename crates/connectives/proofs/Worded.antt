@@ -1,6 +1,6 @@
 -- The tests and the words agree.
 use Rattle.std.proofs.Common.{◌≡◌, ℕ, zero, suc, ◌<◌, Bool, true, false, cond, not, ◌&&◌, ltb, List, [], ◌∷◌, ◌++◌, map, length, get_or, Some, None, Option, sym, refl, ap, ◌∙◌, subst, inl, inr, arith}
-use Rattle.std.specs.List.{ContainsAt as Has, AllByRecursion}
+use Rattle.std.specs.List.{ContainsAt as Has, AllByRecursion, list_any, list_all}
 use Rattle.std.specs.Str.{bytes_eq}
 use Rattle.std.proofs.ByRecursion.{all-has, all_has_itself, All-weaker, has_get_or}
 use Rattle.std.proofs.lemmas.Slice.Eq.{bytes_eq-Decides}
@@ -10,14 +10,13 @@ use Rattle.entries.specs.declared.entry.Head.{Head}
 use Rattle.entries.specs.declared.entry.Head.TheVariants as head
 use Rattle.entries.specs.declared.entry.Literal.{Literal}
 use Rattle.entries.specs.declared.entry.Sort.TheVariants as sort
+use Rattle.entries.specs.declared.entry.Term.{Term}
 use Rattle.entries.specs.Clauses.{holds_literal}
 use Rattle.entries.specs.Equality.{same_kind, same_sort}
-use Rattle.entries.specs.Views.{TermView}
 use Rattle.entries.proofs.Alike.{head_of_kind, kind_of_head, same_sort_decides}
 use Rattle.entries.proofs.Filings.{holds_decides}
 use Rattle.meaning.specs.Proper.{term_at, sort_at}
 use Rattle.meaning.specs.Truth.{literal_of}
-use Rattle.meaning.specs.Values.{some, every}
 use Rattle.meaning.proofs.Clauses.{some_at}
 use Rattle.referee.specs.declared.ruling.Ruling.TheVariants.{Yes, Unmet, Arguments, Overflow}
 use Rattle.referee.specs.Questions.{Asked}
@@ -36,29 +35,29 @@ use Rattle.connectives.specs.Counts.{below_where, below_at}
 use Rattle.connectives.specs.Valid.{picked_below, rule_shows}
 
 -- ---- lists
-every_from : {X : Type 0} (f : X → Bool) (xs : List X) → AllByRecursion (λ x. f x ≡ true) xs → every f xs ≡ true
+every_from : {X : Type 0} (f : X → Bool) (xs : List X) → AllByRecursion (λ x. f x ≡ true) xs → list_all f xs ≡ true
 every_from f [] w = refl
-every_from f (x ∷ xs) w = and_from (f x) (every f xs) w.0 (every_from f xs w.1)
+every_from f (x ∷ xs) w = and_from (f x) (list_all f xs) w.0 (every_from f xs w.1)
 
 -- ---- sets
 module _ (c d : List Literal) where
-  held_from : every (holds_literal c) d ≡ true → (l : Literal) → Has d l → Has c l
+  held_from : list_all (holds_literal c) d ≡ true → (l : Literal) → Has d l → Has c l
   held_from e l h = (holds_decides c l).0 (all-has (λ x. holds_literal c x ≡ true) d l (every_all (holds_literal c) d e) h)
 
-  held_to : ((l : Literal) → Has d l → Has c l) → every (holds_literal c) d ≡ true
+  held_to : ((l : Literal) → Has d l → Has c l) → list_all (holds_literal c) d ≡ true
   held_to f = every_from (holds_literal c) d (All-weaker (Has d) (λ l. holds_literal c l ≡ true) (λ l h. (holds_decides c l).1 (f l h)) d (all_has_itself d))
 
 set_from : (c d : List Literal) → same_set c d ≡ true → SameLiterals c d
-set_from c d e = let p = and_parts (every (holds_literal c) d) _ e in record { there = held_from d c p.1; back = held_from c d p.0 }
+set_from c d e = let p = and_parts (list_all (holds_literal c) d) _ e in record { there = held_from d c p.1; back = held_from c d p.0 }
 
 set_to : (c d : List Literal) → SameLiterals c d → same_set c d ≡ true
-set_to c d s = and_from (every (holds_literal c) d) _ (held_to c d s.back) (held_to d c s.there)
+set_to c d s = and_from (list_all (holds_literal c) d) _ (held_to c d s.back) (held_to d c s.there)
 
 -- ---- T
 with_true : (b : Bool) → b ≡ true → (b && true) ≡ true
 with_true b e = and_from b true e refl
 
-module _ (terms : List TermView) (t : ℕ) where
+module _ (terms : List Term) (t : ℕ) where
   abbrev its_head : Head
   its_head = (term_at terms t).head
 
@@ -120,7 +119,7 @@ picked_part part.First e = absurd (false≢true e)
 picked_part part.Second e = absurd (false≢true e)
 
 abbrev picking : List Piece → Bool
-picking ps = some (λ (p : Piece). is_picked p.part) ps
+picking ps = list_any (λ (p : Piece). is_picked p.part) ps
 
 picks_to : (ps : List Piece) → Picks ps → picking ps ≡ true
 picks_to ps w =
@@ -132,7 +131,7 @@ picks_from ps e =
     (get_or ps w.0 T, has_get_or ps w.0 T w.1, picked_part (get_or ps w.0 T).part w.2)
 
 -- without φᵢ it does not matter which i it is
-module _ (terms : List TermView) (t i : ℕ) where
+module _ (terms : List Term) (t i : ℕ) where
   stands_any : (k : Part) → is_picked k ≡ false → (args : List ℕ) → stands_for k t i args ≡ stands_for k t 0 args
   stands_any part.Whole e args = refl
   stands_any part.Picked e args = absurd (false≢true (sym e))
@@ -210,7 +209,7 @@ unequal e = absurd (omega arith)
 
 abbrev distinct : List Rule → Bool
 distinct [] = true
-distinct (r ∷ rs) = every (λ (s : Rule). not (bytes_eq s.name r.name)) rs && distinct rs
+distinct (r ∷ rs) = list_all (λ (s : Rule). not (bytes_eq s.name r.name)) rs && distinct rs
 
 table_distinct : distinct table ≡ true
 unfolding table
@@ -232,7 +231,7 @@ named_to : (rows : List Rule) → distinct rows ≡ true → (r : Rule) (k : ℕ
 named_to [] u r k h e = absurd (omega arith)
 named_to (x ∷ xs) u r zero h e = cond-true _ _ _ ((bytes_eq-Decides r.name x.name).1 (ap (λ (s : Rule). s.name) (sym e))) ∙ ap Some e
 named_to (x ∷ xs) u r (suc k) h e =
-    let p = and_parts (every (λ (s : Rule). not (bytes_eq s.name x.name)) xs) (distinct xs) u in
+    let p = and_parts (list_all (λ (s : Rule). not (bytes_eq s.name x.name)) xs) (distinct xs) u in
     let other = every_at (λ (s : Rule). not (bytes_eq s.name x.name)) xs k r (omega arith) p.0 in
     let apart : bytes_eq r.name x.name ≡ false = ap (λ (s : Rule). bytes_eq s.name x.name) (sym e) ∙ not-true (bytes_eq (get_or xs k r).name x.name) other in
     cond-false _ _ _ apart ∙ named_to xs p.1 r k (omega arith) e

@@ -1,25 +1,24 @@
 -- What it says that a test holds of some number below a bound.
-use Rattle.std.specs.Prelude.{◌≡◌, ℕ, zero, suc, ◌+◌, ◌<◌, Bool, true, false}
-use Rattle.std.proofs.Common.{inl, inr, sym, ap, ◌∙◌, arith}
-use Rattle.std.proofs.lemmas.Bool.{or_cases, or_left, or_right, or_from, cases_lt, false≢true}
+use Rattle.std.specs.Prelude.{◌≡◌, ℕ, ◌<◌, Bool, true}
+use Rattle.std.specs.List.{ContainsAt as Has, range_with_len}
+use Rattle.std.proofs.Common.{arith}
+use Rattle.std.proofs.lemmas.List.FromFn.{length-range_with_len, get_or-range_with_len}
+use Rattle.referee.proofs.Members.{some_has, has_some}
 use Rattle.connectives.specs.Rules.{some_below}
 
+-- the numbers below a bound are those in its range
+below_has : (n k : ℕ) → k < n → Has (range_with_len 0 n) k
+below_has n k h = (k, omega (arith, length-range_with_len 0 n), λ d. let at = get_or-range_with_len 0 n k d h in omega (arith, at))
+
+has_below : (n k : ℕ) → Has (range_with_len 0 n) k → k < n
+has_below n k w =
+    let long = length-range_with_len 0 n in
+    let inside : w.0 < n = omega (arith, w.1, long) in
+    let at = get_or-range_with_len 0 n w.0 0 inside in
+    omega (arith, w.2 0, at)
+
 pub below_where : (n : ℕ) (f : ℕ → Bool) → some_below n f ≡ true → (k : ℕ) × (k < n) × (f k ≡ true)
-below_where zero f e = absurd (false≢true e)
-below_where (suc n) f e = elim (or_cases (some_below n f) (f n) e) [
-  | inl h ↦ let w = below_where n f h in (w.0, omega (arith, w.1), w.2)
-  | inr h ↦ (n, omega arith, h)
-]
+below_where n f e = let w = some_has f (range_with_len 0 n) e in (w.0, has_below n w.0 w.1, w.2)
 
 pub below_at : (n : ℕ) (f : ℕ → Bool) (k : ℕ) → k < n → f k ≡ true → some_below n f ≡ true
-below_at zero f k h e = absurd (omega arith)
-below_at (suc n) f k h e = elim (cases_lt k n) [
-  | inl l ↦ or_left (some_below n f) (f n) (below_at n f k l e)
-  | inr l ↦ let q : k ≡ n = omega arith in or_right (some_below n f) (f n) (ap f (sym q) ∙ e)
-]
-
--- one more number without it
-pub below_next : (f : ℕ → Bool) (i : ℕ) → some_below i f ≡ false → false ≡ f i → some_below (i + 1) f ≡ false
-below_next f i inv e =
-    let q : i + 1 ≡ suc i = omega arith in
-    ap (λ n. some_below n f) q ∙ or_from (some_below i f) (f i) inv (sym e)
+below_at n f k h e = has_some f (range_with_len 0 n) k (below_has n k h) e

@@ -1,21 +1,21 @@
 -- A step that keeps its rule, for each rule of the table.
 use Rattle.std.specs.Prelude.{ℕ, List, [], ◌∷◌, codes}
+use Rattle.entries.specs.declared.entry.Term.{Term}
 use Prim.Native.String.{String}
 use Rattle.entries.specs.declared.entry.Head.{Head}
 use Rattle.entries.specs.declared.entry.Head.TheVariants as head
 use Rattle.entries.specs.declared.entry.Literal.{Literal}
 use Rattle.entries.specs.declared.entry.Sort.TheVariants as sort
-use Rattle.entries.specs.Views.{TermView}
 use Rattle.referee.specs.declared.ruling.Ruling.TheVariants.{Yes}
 use Rattle.referee.specs.Cases.{Case}
 use Rattle.referee.specs.Samples.{yes, not}
 
 -- A Bool term.
-abbrev bool : Head → List ℕ → TermView
+abbrev bool : Head → List ℕ → Term
 bool h args = record { head = h; sort = sort.Bool; args = args }
 
 -- p, q, true, false, (and p q), (or p q), (=> p q), (= p q), (not p), (or (not p) q).
-abbrev pub terms : List TermView
+abbrev pub terms : List Term
 terms =
     bool (head.Declared 0) [] ∷
     bool (head.Declared 1) [] ∷

@@ -8,3 +8,4 @@ pub mod Valid
 pub mod Counts
 pub mod Situations
 pub mod Wanted
+pub mod Choice

@@ -1,16 +1,15 @@
 -- When a step keeps a rule, as a test, and what the referee of the connectives means.
-use Rattle.std.specs.Prelude.{ℕ, zero, suc, Bool, true, false, cond, not, ◌&&◌, ◌||◌, List, [], ◌∷◌, map, length, take, drop, Some, None, Option, nat_lt}
-use Rattle.std.specs.List.{flat_map}
+use Rattle.std.specs.Prelude.{ℕ, Bool, true, false, cond, not, ◌&&◌, List, [], ◌∷◌, map, length, take, drop, Some, None, Option, nat_lt}
+use Rattle.std.specs.List.{flat_map, list_any, list_all, range_with_len}
 use Rattle.entries.specs.declared.entry.Head.{Head}
 use Rattle.entries.specs.declared.entry.Head.TheVariants as head
 use Rattle.entries.specs.declared.entry.Literal.{Literal}
 use Rattle.entries.specs.declared.entry.Sort.TheVariants as sort
+use Rattle.entries.specs.declared.entry.Term.{Term}
 use Rattle.entries.specs.Clauses.{complement_of}
 use Rattle.entries.specs.Equality.{same_kind, same_sort}
-use Rattle.entries.specs.Views.{TermView}
 use Rattle.meaning.specs.Proper.{term_at, sort_at}
 use Rattle.meaning.specs.Truth.{literal_of}
-use Rattle.meaning.specs.Values.{some, every}
 use Rattle.referee.specs.declared.ruling.Ruling.{Ruling}
 use Rattle.referee.specs.declared.ruling.Ruling.TheVariants.{Yes, Unmet, Arguments}
 use Rattle.referee.specs.Meaning.{Meaning}
@@ -38,11 +37,11 @@ abbrev pub turned_by : Bool → Literal → Literal
 turned_by negative l = cond negative (complement_of l) l
 
 -- The literals of these terms, or their complements.
-abbrev pub piece_literals : List TermView → ℕ → ℕ → Piece → List Literal
+abbrev pub piece_literals : List Term → ℕ → ℕ → Piece → List Literal
 piece_literals terms t i p = map (λ n. turned_by p.negative (literal_of terms n)) (stands_for p.part t i (term_at terms t).args)
 
 -- The clause that letters stand for.
-abbrev pub clause_by : List TermView → ℕ → ℕ → List Piece → List Literal
+abbrev pub clause_by : List Term → ℕ → ℕ → List Piece → List Literal
 clause_by terms t i ps = flat_map (piece_literals terms t i) ps
 
 -- ---- which T and which i a rule takes
@@ -58,17 +57,17 @@ begins Implies h = same_kind h head.Implies
 begins Equiv h = same_kind h head.Equal
 
 -- Whether `=` joins Bool terms, where it is to be a connective.
-abbrev pub joins_bool : Connective → List TermView → List ℕ → Bool
+abbrev pub joins_bool : Connective → List Term → List ℕ → Bool
 joins_bool Any terms args = true
 joins_bool True terms args = true
 joins_bool False terms args = true
 joins_bool And terms args = true
 joins_bool Or terms args = true
 joins_bool Implies terms args = true
-joins_bool Equiv terms args = every (λ n. same_sort (sort_at terms n) sort.Bool) args
+joins_bool Equiv terms args = list_all (λ n. same_sort (sort_at terms n) sort.Bool) args
 
 -- Whether the term t has the connective.
-abbrev pub connects : Connective → List TermView → ℕ → Bool
+abbrev pub connects : Connective → List Term → ℕ → Bool
 connects k terms t = begins k (term_at terms t).head && joins_bool k terms (term_at terms t).args
 
 -- Whether a letter stands for the argument that a step picks.
@@ -81,17 +80,16 @@ is_picked part.Second = false
 
 -- How many i there are to choose from: one for each argument where the letters have φᵢ, a single one elsewhere.
 abbrev pub choices : List Piece → List ℕ → ℕ
-choices ps args = cond (some (λ (p : Piece). is_picked p.part) ps) (length args) 1
+choices ps args = cond (list_any (λ (p : Piece). is_picked p.part) ps) (length args) 1
 
 -- ---- when a step keeps a rule
 
 -- Whether a test holds of some number below a bound.
 abbrev pub some_below : ℕ → (ℕ → Bool) → Bool
-some_below zero f = false
-some_below (suc n) f = some_below n f || f n
+some_below n f = list_any f (range_with_len 0 n)
 
 -- Whether the premises are what the rule takes: none, or one that has just the literal.
-abbrev pub takes : List TermView → ℕ → ℕ → Option Piece → List (List Literal) → Bool
+abbrev pub takes : List Term → ℕ → ℕ → Option Piece → List (List Literal) → Bool
 takes terms t i None [] = true
 takes terms t i None (c ∷ cs) = false
 takes terms t i (Some p) [] = false

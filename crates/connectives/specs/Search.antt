@@ -1,7 +1,7 @@
 -- Where the code looks for T.
 use Rattle.std.specs.Prelude.{Bool, true, false, List, [], ◌∷◌, Some, None, Option}
+use Rattle.std.specs.List.{list_any}
 use Rattle.entries.specs.declared.entry.Literal.{Literal}
-use Rattle.meaning.specs.Values.{some}
 use Rattle.connectives.specs.declared.table.Part.{Part}
 use Rattle.connectives.specs.declared.table.Part.TheVariants as part
 use Rattle.connectives.specs.declared.table.Piece.{Piece}
@@ -27,7 +27,7 @@ is_whole part.Second = false
 
 -- T stands in the premise, or in the clause of a rule that takes none, so that a search there finds it.
 abbrev pub shows_in : Option Piece → List Piece → Bool
-shows_in None ps = some (λ (p : Piece). is_whole p.part) ps
+shows_in None ps = list_any (λ (p : Piece). is_whole p.part) ps
 shows_in (Some p) ps = is_whole p.part
 
 -- The same of a rule.

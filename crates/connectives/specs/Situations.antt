@@ -1,18 +1,19 @@
 -- The situations of each connective: whether T is true, and what is then known of its arguments.
 use Rattle.std.specs.Prelude.{◌≡◌, ℕ, ◌<◌, Bool, true, false, cond, not, ◌||◌, ◌⊎◌, List, [], ◌∷◌, length, take, drop, ℤ, pos, slice_index, refl}
 use Rattle.std.proofs.Common.{inl, inr, sym, ap, ◌∙◌, subst, arith}
-use Rattle.std.specs.List.{AllByRecursion}
+use Rattle.std.specs.List.{AllByRecursion, list_any, list_all}
 use Rattle.std.proofs.ByRecursion.{All-get_or}
 use Rattle.std.proofs.lemmas.List.{drop_more}
 use Rattle.std.proofs.lemmas.Bool.{cases_Bool, and_parts, false≢true}
 use Rattle.entries.specs.declared.entry.Head.TheVariants as head
+use Rattle.entries.specs.declared.entry.Name.{Name}
 use Rattle.entries.specs.declared.entry.Sort.TheVariants as sort
+use Rattle.entries.specs.declared.entry.Term.{Term}
 use Rattle.entries.specs.Equality.{same_sort}
-use Rattle.entries.specs.Views.{NameView, TermView}
 use Rattle.entries.proofs.Alike.{head_of_kind, same_sort_decides}
 use Rattle.meaning.specs.Proper.{Proper, term_at, sort_at}
 use Rattle.meaning.specs.Truth.{signed}
-use Rattle.meaning.specs.Values.{Reading, Fits, Bit, some, every, same_value, holds, value_of, is_true}
+use Rattle.meaning.specs.Values.{Reading, Fits, Bit, same_value, holds, value_of, is_true}
 use Rattle.meaning.proofs.Clauses.{some_at}
 use Rattle.meaning.proofs.Values.{value_by, bool_bits, implies_args, equal_args, and_true, or_true, implies_true, equal_true}
 use Rattle.referee.proofs.Scans.{some_where, every_not, every_all, some_none_all}
@@ -95,35 +96,35 @@ sure c part.First s = first_sure s c.known
 sure c part.Second s = second_sure s c.known
 
 module _ (v : ℕ → Bool) (s : Bool) (i : ℕ) where
-  pick : (ns : List ℕ) (k : ℕ) → k < length ns → signed s (v (slice_index ns k)) ≡ true → some (λ n. signed s (v n)) (take 1 (drop k ns)) ≡ true
-  pick ns k h e = ap (λ z. some (λ n. signed s (v n)) (take 1 z)) (drop_more ns k 0 h) ∙ ap (λ b. b || false) e
+  pick : (ns : List ℕ) (k : ℕ) → k < length ns → signed s (v (slice_index ns k)) ≡ true → list_any (λ n. signed s (v n)) (take 1 (drop k ns)) ≡ true
+  pick ns k h e = ap (λ z. list_any (λ n. signed s (v n)) (take 1 z)) (drop_more ns k 0 h) ∙ ap (λ b. b || false) e
 
-  each_is : (ns : List ℕ) (k : Known) → KnownTrue v ns k → i < length ns → each_sure s k ≡ true → some (λ n. signed s (v n)) (take 1 (drop i ns)) ≡ true
+  each_is : (ns : List ℕ) (k : Known) → KnownTrue v ns k → i < length ns → each_sure s k ≡ true → list_any (λ n. signed s (v n)) (take 1 (drop i ns)) ≡ true
   each_is ns nothing w h e = absurd (false≢true e)
   each_is ns (each b) w h e = pick ns i h (ap (signed s) (All-get_or (λ n. v n ≡ b) ns i 0 h w) ∙ e)
   each_is ns (any b) w h e = absurd (false≢true e)
   each_is ns (two x y) w h e = absurd (false≢true e)
 
-  any_is : (ns : List ℕ) (k : Known) → KnownTrue v ns k → any_sure s k ≡ true → some (λ n. signed s (v n)) ns ≡ true
+  any_is : (ns : List ℕ) (k : Known) → KnownTrue v ns k → any_sure s k ≡ true → list_any (λ n. signed s (v n)) ns ≡ true
   any_is ns nothing w e = absurd (false≢true e)
   any_is ns (each b) w e = absurd (false≢true e)
   any_is ns (any b) w e = some_at (λ n. signed s (v n)) ns w.0 0 w.1 (ap (signed s) w.2 ∙ e)
   any_is ns (two x y) w e = absurd (false≢true e)
 
-  first_is : (ns : List ℕ) (k : Known) → KnownTrue v ns k → first_sure s k ≡ true → some (λ n. signed s (v n)) (take 1 ns) ≡ true
+  first_is : (ns : List ℕ) (k : Known) → KnownTrue v ns k → first_sure s k ≡ true → list_any (λ n. signed s (v n)) (take 1 ns) ≡ true
   first_is ns nothing w e = absurd (false≢true e)
   first_is ns (each b) w e = absurd (false≢true e)
   first_is ns (any b) w e = absurd (false≢true e)
-  first_is ns (two x y) w e = ap (λ z. some (λ n. signed s (v n)) (take 1 z)) w.2 ∙ ap (λ b. signed s b || false) w.3 ∙ ap (λ b. b || false) e
+  first_is ns (two x y) w e = ap (λ z. list_any (λ n. signed s (v n)) (take 1 z)) w.2 ∙ ap (λ b. signed s b || false) w.3 ∙ ap (λ b. b || false) e
 
-  second_is : (ns : List ℕ) (k : Known) → KnownTrue v ns k → second_sure s k ≡ true → some (λ n. signed s (v n)) (take 1 (drop 1 ns)) ≡ true
+  second_is : (ns : List ℕ) (k : Known) → KnownTrue v ns k → second_sure s k ≡ true → list_any (λ n. signed s (v n)) (take 1 (drop 1 ns)) ≡ true
   second_is ns nothing w e = absurd (false≢true e)
   second_is ns (each b) w e = absurd (false≢true e)
   second_is ns (any b) w e = absurd (false≢true e)
-  second_is ns (two x y) w e = ap (λ z. some (λ n. signed s (v n)) (take 1 (drop 1 z))) w.2 ∙ ap (λ b. signed s b || false) w.4 ∙ ap (λ b. b || false) e
+  second_is ns (two x y) w e = ap (λ z. list_any (λ n. signed s (v n)) (take 1 (drop 1 z))) w.2 ∙ ap (λ b. signed s b || false) w.4 ∙ ap (λ b. b || false) e
 
   pub sure_is : (t : ℕ) (ns : List ℕ) (c : Situation) → Obtains v t ns c → (p : Part) → (is_picked p ≡ true → i < length ns) → sure c p s ≡ true →
-      some (λ n. signed s (v n)) (stands_for p t i ns) ≡ true
+      list_any (λ n. signed s (v n)) (stands_for p t i ns) ≡ true
   sure_is t ns c o part.Whole h e = ap (λ b. signed s b || false) o.whole_is ∙ ap (λ b. b || false) e
   sure_is t ns c o part.Picked h e = each_is ns c.known o.known_is (h refl) e
   sure_is t ns c o part.All h e = any_is ns c.known o.known_is e
@@ -164,7 +165,7 @@ bits_alike x y (inr a) (inl b) =
 bits_alike x y (inr a) (inr b) =
     subst (λ z. same_value z y ≡ cond (holds z) (holds y) (not (holds y))) (sym a) (subst (λ z. same_value (pos 1) z ≡ cond (holds (pos 1)) (holds z) (not (holds z))) (sym b) refl)
 
-module _ (ρ : Reading) (names : List NameView) (terms : List TermView) (ok : Proper names terms) (fits : Fits names ρ) (t : ℕ) (h : t < length terms) where
+module _ (ρ : Reading) (names : List Name) (terms : List Term) (ok : Proper names terms) (fits : Fits names ρ) (t : ℕ) (h : t < length terms) where
   abbrev v : ℕ → Bool
   v n = is_true ρ terms n
 
@@ -174,11 +175,11 @@ module _ (ρ : Reading) (names : List NameView) (terms : List TermView) (ok : Pr
   bool_bit : (n : ℕ) → n < t → same_sort (sort_at terms n) sort.Bool ≡ true → Bit (value_of ρ terms n)
   bool_bit n l e = bool_bits ρ names terms ok fits n (omega arith) ((same_sort_decides (sort_at terms n) sort.Bool).0 e)
 
-  equiv_arises : (term_at terms t).head ≡ head.Equal → every (λ n. same_sort (sort_at terms n) sort.Bool) ns ≡ true → Arises v t ns (situations connective.Equiv)
+  equiv_arises : (term_at terms t).head ≡ head.Equal → list_all (λ n. same_sort (sort_at terms n) sort.Bool) ns ≡ true → Arises v t ns (situations connective.Equiv)
   equiv_arises e bools =
       let w = equal_args names terms ok t h e in
       let below = subst (AllByRecursion (λ m. m < t)) w.2 (ok t h).before in
-      let bs = every_all (λ n. same_sort (sort_at terms n) sort.Bool) (w.0 ∷ w.1 ∷ []) (ap (every (λ n. same_sort (sort_at terms n) sort.Bool)) (sym w.2) ∙ bools) in
+      let bs = every_all (λ n. same_sort (sort_at terms n) sort.Bool) (w.0 ∷ w.1 ∷ []) (ap (list_all (λ n. same_sort (sort_at terms n) sort.Bool)) (sym w.2) ∙ bools) in
       equal_two v t ns w.0 w.1 w.2 (v w.0) (v w.1) refl refl
       (equal_true ρ names terms ok t h w.0 w.1 w.2 e
       ∙ bits_alike (value_of ρ terms w.0) (value_of ρ terms w.1) (bool_bit w.0 below.0 bs.0) (bool_bit w.1 below.1.0 bs.1.0))
@@ -191,13 +192,13 @@ module _ (ρ : Reading) (names : List NameView) (terms : List TermView) (ok : Pr
       inl (record { whole_is = ap holds (value_by ρ names terms ok t h head.False (head_of_kind (term_at terms t).head head.False b)); known_is = tt })
   by_connective connective.And b e =
       let q = and_true ρ names terms ok t h (head_of_kind (term_at terms t).head head.And b) in
-      elim (cases_Bool (every v ns)) [
+      elim (cases_Bool (list_all v ns)) [
         | inl y ↦ inl (record { whole_is = q ∙ y; known_is = every_all v ns y })
         | inr y ↦ inr (inl (record { whole_is = q ∙ y; known_is = every_not v ns 0 y }))
       ]
   by_connective connective.Or b e =
       let q = or_true ρ names terms ok t h (head_of_kind (term_at terms t).head head.Or b) in
-      elim (cases_Bool (some v ns)) [
+      elim (cases_Bool (list_any v ns)) [
         | inl y ↦ inl (record { whole_is = q ∙ y; known_is = some_where v ns 0 y })
         | inr y ↦ inr (inl (record { whole_is = q ∙ y; known_is = some_none_all v ns y }))
       ]

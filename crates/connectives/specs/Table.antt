@@ -1,5 +1,5 @@
 -- The rules of the connectives, a row for each.
-use Rattle.std.specs.Prelude.{ℕ, false, cond, not, List, [], ◌∷◌, Some, None, codes, Option}
+use Rattle.std.specs.Prelude.{ℕ, false, not, List, [], ◌∷◌, Some, None, codes, find, Option}
 use Prim.Native.String.{String}
 use Rattle.std.specs.Str.{bytes_eq}
 use Rattle.connectives.specs.declared.table.Connective.{Connective}
@@ -87,8 +87,7 @@ table =
 
 -- The first of some rules that has a name.
 abbrev pub named : List Rule → List ℕ → Option Rule
-named [] name = None
-named (r ∷ rs) name = cond (bytes_eq name r.name) (Some r) (named rs name)
+named rs name = find (λ (r : Rule). bytes_eq name r.name) rs
 
 -- The rule with a name, if there is one.
 abbrev pub rule_named : List ℕ → Option Rule

@@ -4,7 +4,7 @@ use Rattle.std.specs.List.{ContainsAt as Has, AllByRecursion}
 use Rattle.entries.specs.declared.entry.Head.TheVariants as head
 use Rattle.entries.specs.declared.entry.Literal.{Literal}
 use Rattle.entries.specs.declared.entry.Sort.TheVariants as sort
-use Rattle.entries.specs.Views.{TermView}
+use Rattle.entries.specs.declared.entry.Term.{Term}
 use Rattle.meaning.specs.Proper.{term_at, sort_at}
 use Rattle.referee.specs.declared.ruling.Ruling.{Ruling}
 use Rattle.referee.specs.declared.ruling.Ruling.TheVariants.{Yes, Unmet, Arguments, Overflow}
@@ -17,7 +17,7 @@ use Rattle.connectives.specs.Rules.{clause_by, connectives}
 use Rattle.connectives.specs.Table.{Rule, table}
 
 -- The term t has the connective; for Equiv it is `=` on Bool. Any is every term but a `not`.
-abbrev pub Connects : Connective → List TermView → ℕ → Type 0
+abbrev pub Connects : Connective → List Term → ℕ → Type 0
 Connects Any terms t = (term_at terms t).head ≡ head.Not → ⊥
 Connects True terms t = (term_at terms t).head ≡ head.True
 Connects False terms t = (term_at terms t).head ≡ head.False
@@ -32,7 +32,7 @@ pub record SameLiterals (c d : List Literal) : Type 0 where
   pub back : (l : Literal) → Has d l → Has c l
 
 -- The premises are what a rule takes: none, or a single one that is, as a set, the one literal.
-abbrev pub Takes : List TermView → ℕ → ℕ → Option Piece → List (List Literal) → Type 0
+abbrev pub Takes : List Term → ℕ → ℕ → Option Piece → List (List Literal) → Type 0
 Takes terms t i None premises = premises ≡ []
 Takes terms t i (Some p) premises = (c : List Literal) × (premises ≡ c ∷ []) × SameLiterals c (clause_by terms t i (p ∷ []))
 

@@ -18,10 +18,7 @@ impl Referee for Connectives {
     ghost modest = { λ x. connectives_modest };
 
     fn knows(&self, rule: &[u8]) -> bool {
-        match find(rule) {
-            Some(_) => true,
-            None => false,
-        }
+        find(rule).is_some()
     }
 
     fn judge(&self, question: Question<'_>) -> Ruling {

@@ -220,11 +220,8 @@ fn rules() -> &'static [Rule]
 pub(crate) fn find(name: &[u8]) -> Option<Rule>
     ensures { option_map seen result ≡ rule_named name.now }
 {
-    let all = rules();
-    for rule in all {
-        if same_name(name, rule.name) {
-            return Some(*rule);
-        }
-    }
-    None
+    rules()
+        .iter()
+        .find(|rule| same_name(name, rule.name))
+        .copied()
 }

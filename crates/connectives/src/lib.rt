@@ -1,10 +1,10 @@
 //! The referee for the rules of the Boolean connectives.
 #![tactic(auto)]
 
+mod choice;
 mod connectives;
 mod find;
 mod fit;
-mod pieces;
 mod table;
 
 ghost use Rattle.std.specs.Prelude.{IsTrue};

@@ -1,8 +1,7 @@
 -- What a declaration makes, from the text that it is.
-use Rattle.std.proofs.Common.{◌≡◌, ℕ, ◌≤◌, List, [], ◌∷◌, length, take, Some, None, Ok, Err, codes, Option, Result, sym, ap, ◌∙◌, arith}
-use Rattle.std.proofs.lemmas.List.{take_all}
+use Rattle.entries.specs.declared.entry.Name.{Name}
+use Rattle.std.proofs.Common.{◌≡◌, ℕ, List, [], ◌∷◌, take, Some, None, Ok, Err, codes, Option, Result, sym, ap, ◌∙◌, arith}
 use Rattle.entries.specs.declared.entry.Sort.{Sort}
-use Rattle.entries.specs.Views.{NameView}
 use Rattle.forms.specs.Forms.{Named, DeclareFun, word}
 use Rattle.forms.specs.Parsed.{function}
 use Rattle.forms.specs.Trees.{spells}
@@ -52,7 +51,7 @@ module _ (text : List ℕ) (n : Named) (takes : ℕ) (g : Named) (t : DeclareFun
   )
 
 module _ (sorts : List (List ℕ)) (t : DeclareFun) where
-  abbrev made_of : List Sort → Result Sort TermFault → Result NameView TermFault
+  abbrev made_of : List Sort → Result Sort TermFault → Result Name TermFault
   made_of takes r = r then λ gives. Ok (record { word = kept t.function.bytes; takes = takes; gives = gives })
 
   pub takes_unknown : (f : TermFault) → Err f ≡ sorts_of sorts t.takes → Err f ≡ signature sorts t
@@ -67,12 +66,7 @@ module _ (sorts : List (List ℕ)) (t : DeclareFun) where
     pub gives_unknown : (f : TermFault) → Err f ≡ sort_of sorts g → Err f ≡ signature sorts t
     gives_unknown f e = ap (made_of takes) e ∙ signed
 
-    pub makes : (s : Sort) → Ok s ≡ sort_of sorts g → length takes ≤ 64 → (n : Named) → n ≡ t.function → (w : List ℕ) → w ≡ kept n.bytes → (ss : List Sort) → ss ≡ takes → (v : NameView) →
-        v ≡ record { word = w; takes = take 64 ss; gives = s } → Ok v ≡ signature sorts t
-    makes s e few n named w is_IsWord ss read v made =
-        let whole : take 64 ss ≡ takes = ap (take 64) read ∙ take_all 64 takes few in
-        let worded : w ≡ kept t.function.bytes = is_IsWord ∙ ap (λ (m : Named). kept m.bytes) named in
-        ap Ok made
-        ∙ (λ i. Ok (record { word = worded i; takes = whole i; gives = s }))
-        ∙ ap (made_of takes) e
-        ∙ signed
+    pub makes : (s : Sort) → Ok s ≡ sort_of sorts g → (n : Named) → n ≡ t.function → (w : List ℕ) → w ≡ kept n.bytes → Ok (record { word = w; takes = takes; gives = s }) ≡ signature sorts t
+    makes s e n named w kept_is =
+        let worded : w ≡ kept t.function.bytes = kept_is ∙ ap (λ (m : Named). kept m.bytes) named in
+        (λ i. Ok (record { word = worded i; takes = takes; gives = s })) ∙ ap (made_of takes) e ∙ signed

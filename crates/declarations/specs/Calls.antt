@@ -1,11 +1,8 @@
 -- What the calls answer of a text and of lists in memories.
-use Rattle.std.specs.Prelude.{◌≡◌, ℕ, ◌≤◌, List, ◌∷◌, take, Ok, Err, Result}
-use Rattle.std.specs.Result.{result_map_both}
+use Rattle.std.specs.Prelude.{◌≡◌, ℕ, ◌≤◌, List, ◌∷◌, take, Result}
 use Rattle.entries.specs.declared.entry.Name.{Name}
 use Rattle.entries.specs.declared.entry.Sort.{Sort}
-use Rattle.entries.specs.declared.entry.Symbol.{Symbol}
 use Rattle.entries.specs.Filing.{room}
-use Rattle.entries.specs.Views.{name_of, words_of, names_of}
 use Rattle.forms.specs.Forms.{Named, DeclareFun, declare_fun, spell_problem, FitDeclareFun}
 use Rattle.forms.specs.Parsed.{Entry, function, kept_declare_fun, named}
 use Rattle.forms.specs.Trees.{Trees, count, spells, Fits, Listed}
@@ -17,9 +14,8 @@ use Rattle.declarations.specs.declared.fault.TermFault.{TermFault}
 use Rattle.declarations.specs.declared.function.Function.{Function}
 
 -- Declaring a sort, where n sorts stand in the memory before, and n' after.
-abbrev pub DeclaresSort : List Symbol → ℕ → List Name → ℕ → Named → Result (Unit {0}) TermFault → List Symbol → ℕ → Type 0
-DeclaresSort sorts n names m w r sorts' n' =
-    (r, words_of sorts' n') ≡ declared_sort (room 32 sorts) (words_of sorts n) (names_of names m) w
+abbrev pub DeclaresSort : List (List ℕ) → ℕ → List Name → Named → Result (Unit {0}) TermFault → List (List ℕ) → ℕ → Type 0
+DeclaresSort sorts n names w r sorts' n' = (r, take n' sorts') ≡ declared_sort (room 32 sorts) (take n sorts) names w
 
 -- What the code has kept of the declaration of a function.
 abbrev pub seen_function : Function → Entry
@@ -38,25 +34,20 @@ abbrev pub IsDeclaration : List ℕ → Entry → Type 0
 IsDeclaration text f = (t : DeclareFun) × Declaration text f t
 
 -- Declaring the function of a text, where m names stand in the memory before, and m' after.
-abbrev pub DeclaresFun : List ℕ → Entry → List Symbol → ℕ → List Name → ℕ → Result (Unit {0}) TermFault → List Name → ℕ → Type 0
-DeclaresFun text f sorts n names m r names' m' =
-    (t : DeclareFun) → Declaration text f t → (r, names_of names' m') ≡ declared_fun (room 512 names) (words_of sorts n) (names_of names m) t
+abbrev pub DeclaresFun : List ℕ → Entry → List (List ℕ) → List Name → ℕ → Result (Unit {0}) TermFault → List Name → ℕ → Type 0
+DeclaresFun text f sorts names m r names' m' =
+    (t : DeclareFun) → Declaration text f t → (r, take m' names') ≡ declared_fun (room 512 names) sorts (take m names) t
 
 -- Making the name of a text's declaration, likewise.
 abbrev pub Makes : List ℕ → Entry → List (List ℕ) → Result Name TermFault → Type 0
-Makes text f sorts r = (t : DeclareFun) → Declaration text f t → result_map_both name_of (λ fault. fault) r ≡ signature sorts t
+Makes text f sorts r = (t : DeclareFun) → Declaration text f t → r ≡ signature sorts t
 
 -- Items of a list come first that are words, and a closing bracket after them.
 abbrev pub IsListed : List Tok → Type 0
 IsListed tokens = (rest : List Tok) × Listed item.Symbol 0 tokens rest
 
--- The sorts that were read into a memory: n of them.
-abbrev pub sorts_read : Result ℕ TermFault → List Sort → Result (List Sort) TermFault
-sorts_read (Ok n) memory = Ok (take n memory)
-sorts_read (Err f) memory = Err f
-
 -- Reading a list gives the sorts that its items name.
-abbrev pub ReadsSorts : List (List ℕ) → List Tok → Result ℕ TermFault → List Sort → Type 0
-ReadsSorts sorts tokens r memory =
+abbrev pub ReadsSorts : List (List ℕ) → List Tok → Result (List Sort) TermFault → Type 0
+ReadsSorts sorts tokens r =
     (ts : Trees) (end : ℕ) (rest : List Tok) → count ts ≤ 64 → Fits item.Symbol ts → tokens ≡ spells ts (closes end ∷ rest) →
-    sorts_read r memory ≡ sorts_of sorts ts
+    r ≡ sorts_of sorts ts

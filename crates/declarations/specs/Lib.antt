@@ -1,7 +1,6 @@
 pub mod Faults
 pub mod Words
 pub mod Known
-pub mod Lists
 pub mod Signatures
 pub mod Declaring
 pub mod Calls

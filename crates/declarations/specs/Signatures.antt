@@ -1,8 +1,8 @@
 -- The sorts that the declaration of a function names, and what it makes.
+use Rattle.entries.specs.declared.entry.Name.{Name}
 use Rattle.std.specs.Prelude.{ℕ, List, [], ◌∷◌, Ok, Err, Result}
 use Rattle.std.specs.Option.{ok_or}
 use Rattle.entries.specs.declared.entry.Sort.{Sort}
-use Rattle.entries.specs.Views.{NameView}
 use Rattle.forms.specs.Forms.{Named, DeclareFun}
 use Rattle.forms.specs.Trees.{Tree, Trees, none, more, name, number, call}
 use Rattle.declarations.specs.Known.{kept, sort_named}
@@ -31,7 +31,7 @@ sorts_of sorts none = Ok []
 sorts_of sorts (more t ts) = sort_of_item sorts t then λ s. sorts_of sorts ts then λ ss. Ok (s ∷ ss)
 
 -- The name that a declaration makes: the sorts of its arguments are looked up first, then that of its result.
-abbrev pub signature : List (List ℕ) → DeclareFun → Result NameView TermFault
+abbrev pub signature : List (List ℕ) → DeclareFun → Result Name TermFault
 signature sorts t =
     sorts_of sorts t.takes then λ takes. sort_of sorts t.gives then λ gives.
     Ok (record { word = kept t.function.bytes; takes = takes; gives = gives })

@@ -5,7 +5,6 @@ use Rattle.entries.specs.declared.entry.Head.{Head}
 use Rattle.entries.specs.declared.entry.Head.TheVariants as head
 use Rattle.entries.specs.declared.entry.Sort.{Sort}
 use Rattle.entries.specs.declared.entry.Sort.TheVariants as sort
-use Rattle.declarations.specs.declared.table.Operator.{Operator as CodeOperator}
 
 -- An operator: the word for it and the head of its terms.
 pub record Operator : Type 0 where
@@ -52,7 +51,3 @@ built_in word = cond (bytes_eq word (codes "Bool")) (Some sort.Bool) (cond (byte
 -- Words that cannot be declared.
 abbrev pub is_reserved : List ℕ → Bool
 is_reserved word = is_some (operator_of word) || is_some (built_in word)
-
--- What the code's table says of an operator.
-abbrev pub seen_operator : CodeOperator → Operator
-seen_operator o = o.word.now means o.head

@@ -17,8 +17,9 @@ pub enum TermFault {
     Full { at: usize },
 }
 
+// Each layer has faults of its own, with numbers and words that no other has.
 impl TermFault {
-    /// The refusal's number.
+    /// The refusal's number, by which people are told of it.
     pub fn number(self) -> u8
         ensures { result ≡ number_of self }
     {
@@ -35,10 +36,10 @@ impl TermFault {
         ensures { result ≡ place_of self }
     {
         match self {
-            TermFault::Unknown { at } => at,
-            TermFault::Taken { at } => at,
-            TermFault::Misfit { at } => at,
-            TermFault::Full { at } => at,
+            TermFault::Unknown { at }
+            | TermFault::Taken { at }
+            | TermFault::Misfit { at }
+            | TermFault::Full { at } => at,
         }
     }
 }

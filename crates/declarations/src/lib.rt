@@ -6,7 +6,6 @@ mod fault;
 mod function;
 mod known;
 mod signature;
-mod table;
 #[cfg(test)]
 mod tests;
 mod words;

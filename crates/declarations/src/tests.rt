@@ -55,15 +55,15 @@ fn a_word_is_declared_once(rt: HostRuntime) -> Result<(), Fail> {
     let name = Word { at: 14, text: b"f" };
     refused(
         &rt,
-        declare_sort(&mut sorts, &mut count, &names, 1, name),
+        declare_sort(&mut sorts, &mut count, &names, name),
         31,
         14,
     )?;
     let sort = Word { at: 15, text: b"A" };
-    assert!(rt; declare_sort(&mut sorts, &mut count, &names, 1, sort).is_ok());
+    assert!(rt; declare_sort(&mut sorts, &mut count, &names, sort).is_ok());
     refused(
         &rt,
-        declare_sort(&mut sorts, &mut count, &names, 1, sort),
+        declare_sort(&mut sorts, &mut count, &names, sort),
         31,
         15,
     )
@@ -73,14 +73,14 @@ fn a_word_is_declared_once(rt: HostRuntime) -> Result<(), Fail> {
 fn a_list_of_one_takes_one_sort(rt: HostRuntime) -> Result<(), Fail> {
     let mut sorts = [Symbol::new(b"B"); 1];
     let mut count = 0;
-    assert!(rt; sort_named(&sorts, count, b"B").is_none());
+    assert!(rt; sort_named(&sorts[..count], b"B").is_none());
     let first = Word { at: 14, text: b"A" };
-    assert!(rt; declare_sort(&mut sorts, &mut count, &[], 0, first).is_ok());
-    assert_eq!(rt; number(sort_named(&sorts, count, b"A")), Some(0));
+    assert!(rt; declare_sort(&mut sorts, &mut count, &[], first).is_ok());
+    assert_eq!(rt; number(sort_named(&sorts[..count], b"A")), Some(0));
     let second = Word { at: 14, text: b"B" };
     refused(
         &rt,
-        declare_sort(&mut sorts, &mut count, &[], 0, second),
+        declare_sort(&mut sorts, &mut count, &[], second),
         33,
         14,
     )
@@ -105,7 +105,7 @@ fn declare(text: &[u8], names: &mut [Name], count: &mut usize) -> Result<(), Ter
                 takes,
                 gives,
             };
-            declare_fun(text, &sorts, 1, names, count, declared)
+            declare_fun(text, &sorts, names, count, declared)
         }
         _ => Err(TermFault::Misfit { at: 0 }),
     }
@@ -140,7 +140,7 @@ fn a_list_of_one_takes_one_name(rt: HostRuntime) -> Result<(), Fail> {
     let mut names = [Name::new(Symbol::new(b"f"), &[], Sort::Bool); 1];
     let mut count = 0;
     assert!(rt; declare(b"(declare-fun g (A Int) Bool)", &mut names, &mut count).is_ok());
-    assert_eq!(rt; name_named(&names, count, b"g"), Some(0));
+    assert_eq!(rt; name_named(&names[..count], b"g"), Some(0));
     assert_eq!(rt; names[0].takes().len(), 2);
     refused(
         &rt,

@@ -1,48 +1,41 @@
 //! The words that have a meaning before anything is declared.
-ghost use Rattle.std.specs.Prelude.{◌≡◌, map};
-ghost use Rattle.std.specs.Str.{bytes_eq};
-ghost use Rattle.declarations.specs.Words.{operators, operator_of, built_in, is_reserved, seen_operator};
+ghost use Rattle.std.specs.Prelude.{◌≡◌};
+ghost use Rattle.declarations.specs.Words.{operator_of, built_in, is_reserved};
 
-use crate::table::{OPERATORS, Operator};
 use entries::{Head, Sort};
 
-/// The operators.
-fn table() -> &'static [Operator]
-    ensures { map seen_operator result.now ≡ operators }
-{
-    &OPERATORS
-}
-
-/// Whether two words have the same bytes.
-fn same(a: &[u8], b: &[u8]) -> bool
-    ensures { result ≡ bytes_eq a.now b.now }
-{
-    a == b
-}
-
 /// The operator that a word is, if any.
+#[tactic(auto, unfolding(crate::specs::Words::operators))]
 pub fn operator(word: &[u8]) -> Option<Head>
     ensures { result ≡ operator_of word.now }
 {
-    let all = table();
-    for row in all {
-        if same(word, row.word) {
-            return Some(row.head);
-        }
+    match word {
+        b"true" => Some(Head::True),
+        b"false" => Some(Head::False),
+        b"not" => Some(Head::Not),
+        b"and" => Some(Head::And),
+        b"or" => Some(Head::Or),
+        b"=>" => Some(Head::Implies),
+        b"=" => Some(Head::Equal),
+        b"<=" => Some(Head::Le),
+        b"<" => Some(Head::Lt),
+        b">=" => Some(Head::Ge),
+        b">" => Some(Head::Gt),
+        b"+" => Some(Head::Plus),
+        b"-" => Some(Head::Minus),
+        b"*" => Some(Head::Times),
+        _ => None,
     }
-    None
 }
 
 /// The sort that a word is with no declaration, if any.
 pub fn built_in(word: &[u8]) -> Option<Sort>
     ensures { result ≡ built_in word.now }
 {
-    if same(word, b"Bool") {
-        Some(Sort::Bool)
-    } else if same(word, b"Int") {
-        Some(Sort::Int)
-    } else {
-        None
+    match word {
+        b"Bool" => Some(Sort::Bool),
+        b"Int" => Some(Sort::Int),
+        _ => None,
     }
 }
 

@@ -1,5 +1,5 @@
 -- Equality of entries: what the tests decide.
-use Rattle.std.proofs.Common.{◌≡◌, ℕ, Bool, true, false, eqb, [], ◌∷◌, get_or, take, Decides, sym, refl, ap, ◌∙◌}
+use Rattle.std.proofs.Common.{◌≡◌, ℕ, Bool, true, false, eqb, [], ◌∷◌, get_or, Decides, sym, refl, ap, ◌∙◌}
 use Rattle.std.proofs.lemmas.Slice.Eq.{bytes_eq-Decides}
 use Rattle.std.proofs.lemmas.Bool.{and_parts, and_from, eq-eqb, eqb-true, false≢true}
 use Rattle.entries.specs.declared.entry.Head.{Head}
@@ -9,13 +9,6 @@ use Rattle.entries.specs.declared.entry.Sort.{Sort}
 use Rattle.entries.specs.declared.entry.Sort.TheVariants as sort
 use Rattle.entries.specs.declared.entry.Term.{Term}
 use Rattle.entries.specs.Equality.{kind_of, number_of, same_kind, same_head, same_sort, same_term, same_sign, same_literal}
-use Rattle.entries.specs.Views.{TermView, term_of}
-
--- two terms with one head and one sort are equal where their arguments are
-pub terms_decide : (x y : Term) (r : Bool) → x.head ≡ y.head → x.sort ≡ y.sort →
-    Decides r (take x.count x.args ≡ take y.count y.args) → Decides r (term_of x ≡ term_of y)
-terms_decide x y r h s d =
-    (λ t. let e = d.0 t in cc, λ e. d.1 (ap (λ (v : TermView). v.args) e))
 
 -- ---- heads
 -- the head with a place in the list of heads and a number
@@ -82,7 +75,7 @@ pub same_sort_decides : (a b : Sort) → Decides (same_sort a b) (a ≡ b)
 same_sort_decides a b = (same_sort_lem a b, λ e. ap (same_sort a) (sym e) ∙ own_sort a)
 
 -- ---- terms
-pub same_term_decides : (t u : TermView) → Decides (same_term t u) (t ≡ u)
+pub same_term_decides : (t u : Term) → Decides (same_term t u) (t ≡ u)
 same_term_decides t u = (
   (λ e.
       let p = and_parts (same_head t.head u.head) _ e in
@@ -92,8 +85,8 @@ same_term_decides t u = (
       let a = (bytes_eq-Decides t.args u.args).0 q.1 in
       λ i. record { head = h i; sort = s i; args = a i }),
   (λ e.
-      and_from _ _ ((same_head_decides t.head u.head).1 (ap (λ (v : TermView). v.head) e))
-      (and_from _ _ ((same_sort_decides t.sort u.sort).1 (ap (λ (v : TermView). v.sort) e)) ((bytes_eq-Decides t.args u.args).1 (ap (λ (v : TermView). v.args) e)))),
+      and_from _ _ ((same_head_decides t.head u.head).1 (ap (λ (v : Term). v.head) e))
+      (and_from _ _ ((same_sort_decides t.sort u.sort).1 (ap (λ (v : Term). v.sort) e)) ((bytes_eq-Decides t.args u.args).1 (ap (λ (v : Term). v.args) e)))),
 )
 
 -- ---- literals

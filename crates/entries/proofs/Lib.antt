@@ -1,4 +1,4 @@
-pub mod Fronts
+pub mod Padding
 pub mod Firsts
 pub mod Alike
 pub mod Filings

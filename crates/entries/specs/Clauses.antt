@@ -1,5 +1,6 @@
 -- Literals and clauses.
-use Rattle.std.specs.Prelude.{Bool, false, cond, not, ◌||◌, List, [], ◌∷◌, ◌++◌, fold}
+use Rattle.std.specs.Prelude.{Bool, cond, not, List, [], ◌∷◌, ◌++◌, fold}
+use Rattle.std.specs.List.{list_any}
 use Rattle.entries.specs.declared.entry.Literal.{Literal}
 use Rattle.entries.specs.Equality.{same_literal}
 
@@ -9,8 +10,7 @@ complement_of l = record { negative = not l.negative; term = l.term }
 
 -- Whether a literal is one of a clause.
 abbrev pub holds_literal : List Literal → Literal → Bool
-holds_literal [] l = false
-holds_literal (m ∷ ms) l = same_literal m l || holds_literal ms l
+holds_literal c l = list_any (λ m. same_literal m l) c
 
 -- A clause with one more literal: a repeat is dropped.
 abbrev pub with : List Literal → Literal → List Literal

@@ -1,12 +1,13 @@
 -- Equality of heads, sorts, terms and literals, as tests.
-use Rattle.std.specs.Prelude.{ℕ, Bool, true, false, cond, not, ◌&&◌, ◌==◌}
+use Rattle.std.specs.Prelude.{ℕ, Bool, true, false, ◌&&◌, ◌==◌}
 use Rattle.std.specs.Str.{bytes_eq}
+use Rattle.std.proofs.Math.Bool.{beq}
 use Rattle.entries.specs.declared.entry.Head.{Head}
 use Rattle.entries.specs.declared.entry.Head.TheVariants as head
 use Rattle.entries.specs.declared.entry.Literal.{Literal}
 use Rattle.entries.specs.declared.entry.Sort.{Sort}
 use Rattle.entries.specs.declared.entry.Sort.TheVariants as sort
-use Rattle.entries.specs.Views.{TermView}
+use Rattle.entries.specs.declared.entry.Term.{Term}
 
 -- The place of a head in the list of heads.
 abbrev pub kind_of : Head → ℕ
@@ -65,11 +66,11 @@ same_sort (sort.Declared a) sort.Int = false
 same_sort (sort.Declared a) (sort.Declared b) = a == b
 
 -- Terms are equal where their heads, sorts and arguments are.
-abbrev pub same_term : TermView → TermView → Bool
+abbrev pub same_term : Term → Term → Bool
 same_term t u = same_head t.head u.head && (same_sort t.sort u.sort && bytes_eq t.args u.args)
 
 abbrev pub same_sign : Bool → Bool → Bool
-same_sign a b = cond a b (not b)
+same_sign a b = beq a b
 
 -- Literals are equal where their signs and terms are.
 abbrev pub same_literal : Literal → Literal → Bool

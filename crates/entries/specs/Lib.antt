@@ -1,5 +1,5 @@
-pub mod Views
 pub mod First
 pub mod Equality
 pub mod Filing
 pub mod Clauses
+pub mod Few

@@ -1,11 +1,11 @@
 //! Literals and clauses.
 ghost use Rattle.std.specs.Prelude.{◌≡◌, ◌<◌, [], length};
-ghost use Rattle.entries.specs.Views.{clause_of};
 ghost use Rattle.entries.specs.Clauses.{complement_of, with as with_one};
 
-use crate::entry::{Clause, Literal};
+use crate::entry::Literal;
+use crate::few::Few;
 use crate::limits::MOST_LITERALS;
-use crate::search::position;
+use std::marker::Model;
 
 impl Literal {
     /// The literal of the same term with the other sign.
@@ -19,39 +19,47 @@ impl Literal {
     }
 }
 
+/// A clause: literals in written order, later repeats dropped.
+#[derive(Clone, Copy)]
+pub struct Clause {
+    literals: Few<Literal, MOST_LITERALS>,
+}
+
+impl Model for Clause {
+    ghost use Rattle.std.specs.Prelude.{List};
+    ghost use Rattle.entries.specs.declared.entry.Literal.{Literal as OneLiteral};
+
+    ghost Value = { List OneLiteral };
+
+    ghost view = { λ c. c.literals };
+
+    ghost inverse = { λ ls. record { literals = ls } };
+}
+
 impl Clause {
     /// The empty clause.
     pub fn new() -> Clause
-        ensures { clause_of result ≡ [] }
+        ensures { result ≡ [] }
     {
         Clause {
-            len: 0,
-            literals: [Literal {
-                negative: false,
-                term: 0,
-            }; MOST_LITERALS],
+            literals: Few::empty(),
         }
     }
 
     /// The literals.
     pub fn literals(&self) -> &[Literal]
-        ensures { result.now ≡ clause_of self.now }
+        ensures { result.now ≡ self.now }
     {
-        &self.literals[0..self.len as usize]
+        self.literals.as_slice()
     }
 
     /// Adds a literal at the end, unless it is there.
     pub fn push(&mut self, literal: Literal)
-        requires { length (clause_of self.old) < 64 }
-        ensures { clause_of self.new ≡ with_one (clause_of self.old) literal }
+        requires { length self.old < 64 }
+        ensures { self.new ≡ with_one self.old literal }
     {
-        let len = self.len as usize;
-        match position(&self.literals, len, &literal) {
-            Some(_) => {}
-            None => {
-                self.literals[len] = literal;
-                self.len += 1;
-            }
+        if !self.literals().contains(&literal) {
+            self.literals.push(literal);
         }
     }
 }

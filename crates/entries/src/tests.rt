@@ -23,12 +23,13 @@ fn a_list_of_two_takes_two_terms(rt: HostRuntime) {
     let p = Term::new(Head::Declared(0), Sort::Bool, &[]);
     let q = Term::new(Head::Not, Sort::Bool, &[0]);
     let r = Term::new(Head::Not, Sort::Bool, &[1]);
+    let again = p;
     let mut memory = [r; 2];
     let mut count = 0;
     assert_eq!(rt; intern(&mut memory, &mut count, p), Some(0));
     assert_eq!(rt; intern(&mut memory, &mut count, q), Some(1));
     assert_eq!(rt; intern(&mut memory, &mut count, r), None);
-    assert_eq!(rt; intern(&mut memory, &mut count, p), Some(0));
+    assert_eq!(rt; intern(&mut memory, &mut count, again), Some(0));
     assert_eq!(rt; count, 2);
 }
 

@@ -1,7 +1,5 @@
-pub mod Picks
-pub mod Lookups
-pub mod Onlys
-pub mod Leads
-pub mod PairScans
-pub mod Joins
+pub mod Ends
+pub mod Firsts
+pub mod Named
+pub mod Pairs
 pub mod Worked

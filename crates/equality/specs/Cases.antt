@@ -1,9 +1,9 @@
 -- Steps by the rules of equality, worked by the definitions.
+use Rattle.entries.specs.declared.entry.Term.{Term}
 use Rattle.std.specs.Prelude.{ℕ, List, [], ◌∷◌, ◌++◌, ℤ, pos, codes}
 use Rattle.entries.specs.declared.entry.Head.TheVariants as head
 use Rattle.entries.specs.declared.entry.Literal.{Literal}
 use Rattle.entries.specs.declared.entry.Sort.TheVariants as sort
-use Rattle.entries.specs.Views.{TermView}
 use Rattle.referee.specs.declared.ruling.Ruling.TheVariants.{Yes, Unmet, Arguments}
 use Rattle.referee.specs.Cases.{Case}
 use Rattle.referee.specs.Questions.{Asked}
@@ -11,11 +11,11 @@ use Rattle.referee.specs.Samples.{a, p, nought, p_and_q, a_is_b, b_is_c, a_is_c,
 use Rattle.referee.specs.Samples as sample
 
 -- The equality of a term with itself.
-abbrev pub own : ℕ → TermView
+abbrev pub own : ℕ → Term
 own n = record { head = head.Equal; sort = sort.Bool; args = n ∷ n ∷ [] }
 
 -- The terms of the cases: the samples, then a = a, 0 = 0, and (p and q) = (p and q).
-abbrev pub terms : List TermView
+abbrev pub terms : List Term
 terms = ((sample.terms ++ own a ∷ []) ++ own nought ∷ []) ++ own p_and_q ∷ []
 
 -- The number of each term that the samples lack.

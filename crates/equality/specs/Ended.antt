@@ -1,10 +1,10 @@
 -- The last literal of a clause and the chain before it: what the tests say, and the same in words.
+use Rattle.entries.specs.declared.entry.Term.{Term}
 use Rattle.std.specs.Prelude.{◌≡◌, ℕ, ◌+◌, ◌-◌, ◌<◌, true, false, cond, ◌&&◌, List, [], ◌∷◌, ◌++◌, length, take, Some, None, ◌==◌, nat_lt, slice_index_or, refl}
 use Rattle.std.proofs.Common.{sym, ap, ◌∙◌, subst, arith}
 use Rattle.std.proofs.lemmas.List.{take_all, take_more, length_push, same_from_push}
 use Rattle.std.proofs.lemmas.Bool.{and_parts, and_from, eqb-true, eq-eqb, ltb-true, lt-ltb}
 use Rattle.entries.specs.declared.entry.Literal.{Literal}
-use Rattle.entries.specs.Views.{TermView}
 use Rattle.meaning.specs.Truth.{positive}
 use Rattle.equality.specs.declared.sides.Sides.{Sides}
 use Rattle.equality.specs.Rules.{front, last_sides, leads}
@@ -20,7 +20,7 @@ split c h =
     let whole : take (length c - 1 + 1) c ≡ c = take_all (length c - 1 + 1) c (omega arith) in
     sym whole ∙ take_more c (length c - 1) (positive 0) (omega arith)
 
-module _ (terms : List TermView) (c : List Literal) where
+module _ (terms : List Term) (c : List Literal) where
   pub ends_by : (e : Sides) → last_sides terms c ≡ Some e → Ends terms c (front c) e.left e.right
   ends_by e is =
       let w = cond_some (nat_lt 0 (length c)) (equated terms false (last_of c)) e is in
@@ -42,7 +42,7 @@ module _ (terms : List TermView) (c : List Literal) where
         ∙ ap (equated terms false) apart.1
         ∙ equated_of terms false w.last s t w.equates
 
-module _ (terms : List TermView) where
+module _ (terms : List Term) where
   pub leads_by : (s : ℕ) (ls : List Literal) (t : ℕ) → leads terms s ls t ≡ true → Chain terms s ls t
   leads_by s [] t e = eqb-true s t e
   leads_by s (l ∷ ls) t e =

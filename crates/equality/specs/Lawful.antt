@@ -1,14 +1,15 @@
 -- What keeps a rule of equality is entailed.
+use Rattle.entries.specs.declared.entry.Name.{Name}
+use Rattle.entries.specs.declared.entry.Term.{Term}
 use Rattle.std.specs.Prelude.{◌≡◌, ℕ, ◌<◌, Bool, true, false, not, List, [], ◌∷◌, map, length, ℤ, is_some, Some, None, Option, refl}
 use Rattle.std.proofs.Common.{inl, inr, sym, ap, ◌∙◌, subst, arith}
-use Rattle.std.specs.List.{ContainsAt as Has, AllByRecursion}
+use Rattle.std.specs.List.{ContainsAt as Has, AllByRecursion, list_all}
 use Rattle.std.proofs.ByRecursion.{all-has, has_append_left, has_push}
 use Rattle.std.proofs.lemmas.Bool.{cases_Bool, true≢false}
 use Rattle.entries.specs.declared.entry.Literal.{Literal}
-use Rattle.entries.specs.Views.{NameView, TermView}
 use Rattle.meaning.specs.Proper.{Proper, term_at}
 use Rattle.meaning.specs.Truth.{signed, literal_true, clause_true}
-use Rattle.meaning.specs.Values.{Reading, every, same_value, value, value_of, is_true}
+use Rattle.meaning.specs.Values.{Reading, same_value, value, value_of, is_true}
 use Rattle.meaning.proofs.Values.{same_value_decides, value_at, equal_true}
 use Rattle.referee.specs.declared.ruling.Ruling.TheVariants.{Unmet}
 use Rattle.referee.specs.Meaning.{Entailed, Lawful, Modest}
@@ -37,7 +38,7 @@ map_pairs f (s ∷ ss) (t ∷ ts) e g =
     let rest = map_pairs f ss ts (omega arith) (λ p h. g p (has_on (record { left = s; right = t }) (pairs ss ts) p h)) in
     ap (λ v. v ∷ map f ss) first ∙ ap (λ vs. f t ∷ vs) rest
 
-module _ (ρ : Reading) (names : List NameView) (terms : List TermView) (ok : Proper names terms) where
+module _ (ρ : Reading) (names : List Name) (terms : List Term) (ok : Proper names terms) where
   -- an equality is true where its sides have one value
   equates_true : (negative : Bool) (l : Literal) (s t : ℕ) → Equates terms negative l s t → Among terms l →
       literal_true ρ terms l ≡ signed negative (same_value (value_of ρ terms s) (value_of ρ terms t))
@@ -110,7 +111,7 @@ module _ (ρ : Reading) (names : List NameView) (terms : List TermView) (ok : Pr
       false_equal l s w.0 w.1 here.0 here.1 ∙ chain_equal w.0 ls t (λ m h. g m (has_on l ls m h)) w.2
 
 -- ---- the rules
-module _ (names : List NameView) (q : Asked) (ok : Proper names q.terms) (posed : Posed q) where
+module _ (names : List Name) (q : Asked) (ok : Proper names q.terms) (posed : Posed q) where
   reflexive_entailed : IsReflexive q → Entailed names q
   reflexive_entailed w ρ fits premises = equal_said ρ names q.terms ok q.clause w.t w.t w.clause posed.clause refl
 
@@ -139,7 +140,7 @@ module _ (names : List NameView) (q : Asked) (ok : Proper names q.terms) (posed 
       ]))
 
   -- a premise that is an equality gives its sides one value
-  premise_equal : (ρ : Reading) → every (clause_true ρ q.terms) q.premises ≡ true → (c : List Literal) (s t : ℕ) → Has q.premises c → Says q.terms c s t →
+  premise_equal : (ρ : Reading) → list_all (clause_true ρ q.terms) q.premises ≡ true → (c : List Literal) (s t : ℕ) → Has q.premises c → Says q.terms c s t →
       value_of ρ q.terms s ≡ value_of ρ q.terms t
   premise_equal ρ premises c s t h w =
       said_equal ρ names q.terms ok c s t w (all-has (AllByRecursion (Among q.terms)) q.premises c posed.premises h) (every_has (clause_true ρ q.terms) q.premises premises c h)

@@ -1,34 +1,23 @@
 -- Equalities by their sides: what the tests say, and the same in words.
+use Rattle.entries.specs.declared.entry.Term.{Term}
 use Rattle.std.specs.Prelude.{◌≡◌, ℕ, Bool, true, false, cond, ◌&&◌, List, [], ◌∷◌, is_some, Some, None, Option, ◌==◌, refl}
 use Rattle.std.proofs.Common.{sym, ap, ◌∙◌, subst}
-use Rattle.std.specs.List.{ContainsAt as Has}
+use Rattle.std.specs.List.{ContainsAt as Has, list_all}
 use Rattle.std.proofs.lemmas.Bool.{and_parts, and_from, eqb-true, eq-eqb, false≢true}
 use Rattle.entries.specs.declared.entry.Head.TheVariants as head
 use Rattle.entries.specs.declared.entry.Literal.{Literal}
 use Rattle.entries.specs.Equality.{same_kind, same_sign, same_literal}
-use Rattle.entries.specs.Views.{TermView}
 use Rattle.entries.proofs.Alike.{head_of_kind, kind_of_head, same_literal_decides, same_sign_lem, own_sign}
 use Rattle.meaning.specs.Proper.{term_at}
-use Rattle.meaning.specs.Values.{every}
 use Rattle.equality.specs.declared.sides.Sides.{Sides}
 use Rattle.equality.specs.Sides.{two_of, sides_of, equated, only_of, positive_of, lone, such, is_sides}
 use Rattle.equality.specs.Words.{Equates, Says}
 use Rattle.referee.proofs.Members.{has_none, has_first, every_has, has_every}
 
 -- ---- something or nothing
-none_some : {X R : Type 0} (x : X) → ◌≡◌ {A = Option X} None (Some x) → R
-none_some x e = absurd (false≢true (ap is_some e))
-
 pub cond_some : {X : Type 0} (b : Bool) (o : Option X) (x : X) → cond b o None ≡ Some x → (b ≡ true) × (o ≡ Some x)
 cond_some true o x e = (refl, e)
-cond_some false o x e = none_some x e
-
-abbrev from : {X : Type 0} → X → Option X → X
-from d None = d
-from d (Some x) = x
-
-some_same : {X : Type 0} (x y : X) → ◌≡◌ {A = Option X} (Some x) (Some y) → x ≡ y
-some_same x y e = ap (from x) e
+cond_some false o x e = cc
 
 pub is_some_by : (o : Option Sides) → is_some o ≡ true → (e : Sides) × (o ≡ Some e)
 is_some_by None t = absurd (false≢true t)
@@ -57,14 +46,14 @@ is_sides_of o p is =
 
 -- ---- the sides of a literal
 two_by : (ns : List ℕ) (e : Sides) → two_of ns ≡ Some e → ns ≡ e.left ∷ e.right ∷ []
-two_by [] e is = none_some e is
-two_by (s ∷ []) e is = none_some e is
+two_by [] e is = cc
+two_by (s ∷ []) e is = cc
 two_by (s ∷ t ∷ []) e is =
-    let same = some_same (record { left = s; right = t }) e is in
+    let same : record { left = s; right = t } ≡ e = cc in
     ap (λ (z : Sides). z.left ∷ z.right ∷ []) same
-two_by (s ∷ t ∷ u ∷ ns) e is = none_some e is
+two_by (s ∷ t ∷ u ∷ ns) e is = cc
 
-module _ (terms : List TermView) (negative : Bool) (l : Literal) where
+module _ (terms : List Term) (negative : Bool) (l : Literal) where
   pub equated_by : (e : Sides) → equated terms negative l ≡ Some e → Equates terms negative l e.left e.right
   equated_by e is =
       let t = term_at terms l.term in
@@ -85,10 +74,10 @@ module _ (terms : List TermView) (negative : Bool) (l : Literal) where
 
 -- ---- the sides of a clause that is one equality
 only_by : (c : List Literal) (l : Literal) → only_of c ≡ Some l → Has c l × ((m : Literal) → Has c m → m ≡ l)
-only_by [] l is = none_some l is
+only_by [] l is = cc
 only_by (k ∷ ks) l is =
-    let w = cond_some (every (same_literal k) (k ∷ ks)) (Some k) l is in
-    let same = some_same k l w.1 in
+    let w = cond_some (list_all (same_literal k) (k ∷ ks)) (Some k) l is in
+    let same : k ≡ l = cc (w.1) in
     (subst (Has (k ∷ ks)) same (has_first k ks), λ m h. sym ((same_literal_decides k m).0 (every_has (same_literal k) (k ∷ ks) w.0 m h)) ∙ same)
 
 only_of_lem : (c : List Literal) (l : Literal) → Has c l → ((m : Literal) → Has c m → m ≡ l) → only_of c ≡ Some l
@@ -98,9 +87,9 @@ only_of_lem (k ∷ ks) l h alone =
     ap (λ b. cond b (Some k) None) (has_every (same_literal k) (k ∷ ks) (λ m g. (same_literal_decides k m).1 (same ∙ sym (alone m g))))
     ∙ ap Some same
 
-module _ (terms : List TermView) where
+module _ (terms : List Term) where
   positive_by : (o : Option Literal) (e : Sides) → positive_of terms o ≡ Some e → (l : Literal) × (o ≡ Some l) × (equated terms false l ≡ Some e)
-  positive_by None e is = none_some e is
+  positive_by None e is = cc
   positive_by (Some l) e is = (l, refl, is)
 
   pub lone_by : (c : List Literal) (e : Sides) → lone terms c ≡ Some e → Says terms c e.left e.right

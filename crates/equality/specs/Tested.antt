@@ -1,21 +1,20 @@
 -- The test of each rule, and the rule in words.
+use Rattle.entries.specs.declared.entry.Term.{Term}
 use Rattle.std.specs.Prelude.{◌≡◌, ℕ, Bool, true, ◌&&◌, ◌⊎◌, List, [], ◌∷◌, length, is_some, ◌==◌, nat_eq, nat_lt, refl}
 use Rattle.std.proofs.Common.{inl, inr, sym, ap, ◌∙◌, subst}
-use Rattle.std.specs.List.{ContainsAt as Has}
+use Rattle.std.specs.List.{ContainsAt as Has, list_any, list_all}
 use Rattle.std.proofs.lemmas.Bool.{and_parts, and_from, or_cases, or_left, or_right, eqb-true, eq-eqb, ltb-true, lt-ltb, false≢true}
 use Rattle.entries.specs.declared.entry.Head.TheVariants as head
 use Rattle.entries.specs.declared.entry.Literal.{Literal}
 use Rattle.entries.specs.Equality.{number_of, same_kind}
-use Rattle.entries.specs.Views.{TermView}
 use Rattle.entries.proofs.Alike.{head_of_kind, kind_of_head, same_head_decides}
 use Rattle.meaning.specs.Proper.{term_at}
-use Rattle.meaning.specs.Values.{some, every}
 use Rattle.referee.specs.Questions.{Asked}
 use Rattle.equality.specs.declared.rule.Rule.TheVariants.{Reflexive, Transitive, Congruent, Trans, Cong}
 use Rattle.equality.specs.declared.sides.Sides.{Sides}
 use Rattle.equality.specs.Heads.{is_operation, one_name, one_operation}
 use Rattle.equality.specs.Meaning.{none, meets_rule}
-use Rattle.equality.specs.Rules.{reflexive, front, last_sides, leads, transitive, pairs, negates, settled, congruent_by, congruent, through, joins, granted, applied_by}
+use Rattle.equality.specs.Rules.{reflexive, front, last_sides, leads, transitive, pairs, negates, settled, congruent_at, congruent, through, joins, granted, applied_by}
 use Rattle.equality.specs.Sides.{equated, lone, is_sides}
 use Rattle.equality.specs.Words.{Equates, Says, args_at, IsReflexive, IsTransitive, IsCongruent, IsJoined, IsApplied, RulesTested}
 use Rattle.equality.specs.Ended.{ends_by, ends_of, ends_front, leads_by, leads_of}
@@ -70,7 +69,7 @@ transitive_of q w =
     (and_from _ _ (lt-ltb 0 (length w.links) w.linked) (leads_of q.terms w.s w.links w.t w.chain))))
 
 -- ---- eq_congruent
-module _ (terms : List TermView) where
+module _ (terms : List Term) where
   negates_by : (p : Sides) (l : Literal) → negates terms p l ≡ true → Equates terms true l p.left p.right
   negates_by p l e = equated_by terms true l p (is_sides_by (equated terms true l) p e)
 
@@ -78,7 +77,7 @@ module _ (terms : List TermView) where
   negates_of p l w = is_sides_of (equated terms true l) p (equated_of terms true l p.left p.right w)
 
   settled_by : (c : List Literal) (p : Sides) → settled terms c p ≡ true → (p.left ≡ p.right) ⊎ ((l : Literal) × Has c l × Equates terms true l p.left p.right)
-  settled_by c p e = elim (or_cases (p.left == p.right) (some (negates terms p) c) e) [
+  settled_by c p e = elim (or_cases (p.left == p.right) (list_any (negates terms p) c) e) [
     | inl h ↦ inl (eqb-true p.left p.right h)
     | inr h ↦ let w = some_has (negates terms p) c h in inr (w.0, w.1, negates_by p w.0 w.2)
   ]
@@ -87,17 +86,12 @@ module _ (terms : List TermView) where
   settled_of c p (inl e) = or_left (p.left == p.right) _ (eq-eqb p.left p.right e)
   settled_of c p (inr w) = or_right (p.left == p.right) _ (has_some (negates terms p) c w.0 w.1 (negates_of p w.0 w.2))
 
-abbrev congruent_at : List TermView → List Literal → Sides → Bool
-congruent_at terms c e =
-    one_name (term_at terms e.left).head (term_at terms e.right).head
-    && (length (args_at terms e.left) == length (args_at terms e.right) && congruent_by terms c (pairs (args_at terms e.left) (args_at terms e.right)))
-
 congruent_by_lem : (q : Asked) → meets_rule Congruent q ≡ true → IsCongruent q
 congruent_by_lem q e =
     let terms = q.terms in
     let c = q.clause in
     let both = and_parts (none q.premises) (congruent terms c) e in
-    let w = such_by (last_sides terms c) (congruent_at terms c) both.1 in
+    let w = such_by (last_sides terms c) (congruent_at terms c (front c)) both.1 in
     let s = w.0.left in
     let t = w.0.right in
     let ps = pairs (args_at terms s) (args_at terms t) in
@@ -105,7 +99,7 @@ congruent_by_lem q e =
     let named = and_parts (same_kind (term_at terms s).head (head.Declared 0)) _ one.0 in
     let first = head_of_kind (term_at terms s).head (head.Declared 0) named.0 in
     let two = and_parts (length (args_at terms s) == length (args_at terms t)) _ one.1 in
-    let three = and_parts (every (settled terms c) ps) _ two.1 in
+    let three = and_parts (list_all (settled terms c) ps) _ two.1 in
     record {
       free = (none_decides q.premises).0 both.0;
       s = s;
@@ -117,7 +111,7 @@ congruent_by_lem q e =
       as_many = eqb-true (length (args_at terms s)) (length (args_at terms t)) two.0;
       settled = λ p h. settled_by terms c p (every_has (settled terms c) ps three.0 p h);
       only_pairs = λ l h.
-          let found = some_has (λ p. negates terms p l) ps (every_has (λ m. some (λ p. negates terms p m) ps) (front c) three.1 l h) in
+          let found = some_has (λ p. negates terms p l) ps (every_has (λ m. list_any (λ p. negates terms p m) ps) (front c) three.1 l h) in
           (found.0, found.1, negates_by terms found.0 l found.2);
     }
 
@@ -130,19 +124,19 @@ congruent_of q w =
     let ps = pairs (args_at terms s) (args_at terms t) in
     let same = sym (ends_front terms c w.before s t w.ends) in
     and_from _ _ ((none_decides q.premises).1 w.free)
-    (such_of (last_sides terms c) (congruent_at terms c) (sides s t) (ends_of terms c w.before s t w.ends)
+    (such_of (last_sides terms c) (congruent_at terms c (front c)) (sides s t) (ends_of terms c w.before s t w.ends)
     (and_from _ _
     (and_from _ _ (kind_of_head (term_at terms s).head (head.Declared w.name) w.names.0)
     ((same_head_decides (term_at terms s).head (term_at terms t).head).1 (w.names.0 ∙ sym w.names.1)))
     (and_from _ _ (eq-eqb (length (args_at terms s)) (length (args_at terms t)) w.as_many)
     (and_from _ _ (has_every (settled terms c) ps (λ p h. settled_of terms c p (w.settled p h)))
-    (subst (λ ls. every (λ m. some (λ p. negates terms p m) ps) ls ≡ true) same
-    (has_every (λ m. some (λ p. negates terms p m) ps) w.before (λ l h.
+    (subst (λ ls. list_all (λ m. list_any (λ p. negates terms p m) ps) ls ≡ true) same
+    (has_every (λ m. list_any (λ p. negates terms p m) ps) w.before (λ l h.
     let found = w.only_pairs l h in
     has_some (λ p. negates terms p l) ps found.0 found.1 (negates_of terms found.0 l found.2))))))))
 
 -- ---- trans
-joins_by : (terms : List TermView) (ps : List (List Literal)) (e : Sides) → joins terms ps e ≡ true → (p q : List Literal) × (ps ≡ p ∷ q ∷ []) × (through terms p q e ≡ true)
+joins_by : (terms : List Term) (ps : List (List Literal)) (e : Sides) → joins terms ps e ≡ true → (p q : List Literal) × (ps ≡ p ∷ q ∷ []) × (through terms p q e ≡ true)
 joins_by terms [] e t = absurd (false≢true t)
 joins_by terms (p ∷ []) e t = absurd (false≢true t)
 joins_by terms (p ∷ q ∷ []) e t = (p, q, refl, t)
@@ -177,9 +171,9 @@ joined_of q w =
     (is_sides_of (lone terms w.second) (sides w.s w.t) (lone_of terms w.second w.s w.t w.goes_on))))
 
 -- ---- cong
-module _ (terms : List TermView) (premises : List (List Literal)) where
+module _ (terms : List Term) (premises : List (List Literal)) where
   granted_by : (p : Sides) → granted terms premises p ≡ true → (p.left ≡ p.right) ⊎ ((c : List Literal) × Has premises c × Says terms c p.left p.right)
-  granted_by p e = elim (or_cases (p.left == p.right) (some (λ c. is_sides (lone terms c) p) premises) e) [
+  granted_by p e = elim (or_cases (p.left == p.right) (list_any (λ c. is_sides (lone terms c) p) premises) e) [
     | inl h ↦ inl (eqb-true p.left p.right h)
     | inr h ↦ let w = some_has (λ c. is_sides (lone terms c) p) premises h in inr (w.0, w.1, lone_by terms w.0 p (is_sides_by (lone terms w.0) p w.2))
   ]
@@ -190,7 +184,7 @@ module _ (terms : List TermView) (premises : List (List Literal)) where
       or_right (p.left == p.right) _
       (has_some (λ c. is_sides (lone terms c) p) premises w.0 w.1 (is_sides_of (lone terms w.0) p (lone_of terms w.0 p.left p.right w.2)))
 
-abbrev applied_at : List TermView → List (List Literal) → Sides → Bool
+abbrev applied_at : List Term → List (List Literal) → Sides → Bool
 applied_at terms premises e =
     one_operation (term_at terms e.left).head (term_at terms e.right).head
     && (length (args_at terms e.left) == length (args_at terms e.right) && applied_by terms premises (pairs (args_at terms e.left) (args_at terms e.right)))
@@ -205,7 +199,7 @@ applied_by_lem q e =
     let one = and_parts (one_operation (term_at terms s).head (term_at terms t).head) _ w.2 in
     let headed = and_parts (is_operation (term_at terms s).head) _ one.0 in
     let two = and_parts (length (args_at terms s) == length (args_at terms t)) _ one.1 in
-    let three = and_parts (every (granted terms q.premises) ps) _ two.1 in
+    let three = and_parts (list_all (granted terms q.premises) ps) _ two.1 in
     record {
       s = s;
       t = t;

@@ -1,9 +1,9 @@
 -- The rules of equality in words: what each of them takes.
+use Rattle.entries.specs.declared.entry.Term.{Term}
 use Rattle.std.specs.Prelude.{◌≡◌, ℕ, ◌<◌, Bool, true, false, ◌⊎◌, List, [], ◌∷◌, ◌++◌, length, Some, Decides}
 use Rattle.std.specs.List.{ContainsAt as Has}
 use Rattle.entries.specs.declared.entry.Head.TheVariants as head
 use Rattle.entries.specs.declared.entry.Literal.{Literal}
-use Rattle.entries.specs.Views.{TermView}
 use Rattle.meaning.specs.Proper.{term_at}
 use Rattle.referee.specs.declared.ruling.Ruling.{Ruling}
 use Rattle.referee.specs.declared.ruling.Ruling.TheVariants.{Yes, Unmet, Arguments, Overflow}
@@ -17,31 +17,31 @@ use Rattle.equality.specs.Names.{rule_named}
 use Rattle.equality.specs.Rules.{pairs}
 
 -- The literal l is s = t; where `negative` is true it is ¬(s = t).
-pub record Equates (terms : List TermView) (negative : Bool) (l : Literal) (s t : ℕ) : Type 0 where
+pub record Equates (terms : List Term) (negative : Bool) (l : Literal) (s t : ℕ) : Type 0 where
   pub sign : l.negative ≡ negative
   pub equal : (term_at terms l.term).head ≡ head.Equal
   pub between : (term_at terms l.term).args ≡ s ∷ t ∷ []
 
 -- The clause, as a set, is the one literal s = t.
-pub record Says (terms : List TermView) (c : List Literal) (s t : ℕ) : Type 0 where
+pub record Says (terms : List Term) (c : List Literal) (s t : ℕ) : Type 0 where
   pub literal : Literal
   pub has : Has c literal
   pub alone : (m : Literal) → Has c m → m ≡ literal
   pub equates : Equates terms false literal s t
 
 -- The clause is some literals and then, last, s = t.
-pub record Ends (terms : List TermView) (c before : List Literal) (s t : ℕ) : Type 0 where
+pub record Ends (terms : List Term) (c before : List Literal) (s t : ℕ) : Type 0 where
   pub last : Literal
   pub written : c ≡ before ++ last ∷ []
   pub equates : Equates terms false last s t
 
 -- The literals are, in their order, ¬(s = m), ¬(m = n) and so on, up to the term t.
-abbrev pub Chain : List TermView → ℕ → List Literal → ℕ → Type 0
+abbrev pub Chain : List Term → ℕ → List Literal → ℕ → Type 0
 Chain terms s [] t = s ≡ t
 Chain terms s (l ∷ ls) t = (m : ℕ) × Equates terms true l s m × Chain terms m ls t
 
 -- The arguments of a term.
-abbrev pub args_at : List TermView → ℕ → List ℕ
+abbrev pub args_at : List Term → ℕ → List ℕ
 args_at terms n = (term_at terms n).args
 
 -- `eq_reflexive` and `refl`: there is no premise, and the clause is t = t for some t.

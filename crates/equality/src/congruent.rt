@@ -1,24 +1,24 @@
 //! `eq_congruent`: equal arguments give equal terms.
-ghost use Rattle.std.specs.Prelude.{◌≡◌, length};
-ghost use Rattle.entries.specs.Views.{views_of};
-ghost use Rattle.meaning.specs.Values.{some, every};
-ghost use Rattle.equality.specs.Rules.{pairs, negates, settled, congruent_by, congruent};
+ghost use Rattle.std.specs.Prelude.{◌≡◌};
+ghost use Rattle.std.specs.List.{list_any, list_all};
+ghost use Rattle.equality.specs.Rules.{pairs, negates, settled, congruent_at, congruent};
 
 use crate::heads::{args_at, head_at, one_name};
-use crate::last::{front_of, last_sides};
-use crate::sides::{Sides, equated, is_sides};
+use crate::sides::{Sides, equated};
 use entries::{Literal, Term};
+
+// The scans of this rule are loops, over the literals and over the two argument lists side by side.
 
 /// Whether the literal is the negated equality of the pair.
 fn is_negated(terms: &[Term], pair: Sides, literal: Literal) -> bool
-    ensures { result ≡ negates (views_of terms.now) pair literal }
+    ensures { result ≡ negates terms.now pair literal }
 {
-    is_sides(equated(terms, true, literal), pair)
+    equated(terms, true, literal) == Some(pair)
 }
 
 /// Whether the pair's negated equality is in the clause.
 fn has_negated(terms: &[Term], clause: &[Literal], pair: Sides) -> bool
-    ensures { result ≡ some (negates (views_of terms.now) pair) clause.now }
+    ensures { result ≡ list_any (negates terms.now pair) clause.now }
 {
     for l in clause {
         if is_negated(terms, pair, *l) {
@@ -30,20 +30,19 @@ fn has_negated(terms: &[Term], clause: &[Literal], pair: Sides) -> bool
 
 /// Whether the pair is one term, or its negated equality is in the clause.
 fn is_settled(terms: &[Term], clause: &[Literal], pair: Sides) -> bool
-    ensures { result ≡ settled (views_of terms.now) clause.now pair }
+    ensures { result ≡ settled terms.now clause.now pair }
 {
     pair.left == pair.right || has_negated(terms, clause, pair)
 }
 
 /// Whether each pair of arguments is settled.
 fn all_settled(terms: &[Term], clause: &[Literal], left: &[u16], right: &[u16]) -> bool
-    requires { length left.now ≡ length right.now }
-    ensures { result ≡ every (settled (views_of terms.now) clause.now) (pairs left.now right.now) }
+    ensures { result ≡ list_all (settled terms.now clause.now) (pairs left.now right.now) }
 {
-    for i in 0..left.len() {
+    for (s, t) in left.iter().zip(right) {
         let pair = Sides {
-            left: left[i],
-            right: right[i],
+            left: *s,
+            right: *t,
         };
         if !is_settled(terms, clause, pair) {
             return false;
@@ -54,13 +53,12 @@ fn all_settled(terms: &[Term], clause: &[Literal], left: &[u16], right: &[u16]) 
 
 /// Whether the literal is some pair's negated equality.
 fn is_of_pair(terms: &[Term], literal: Literal, left: &[u16], right: &[u16]) -> bool
-    requires { length left.now ≡ length right.now }
-    ensures { result ≡ some (λ p. negates (views_of terms.now) p literal) (pairs left.now right.now) }
+    ensures { result ≡ list_any (λ p. negates terms.now p literal) (pairs left.now right.now) }
 {
-    for i in 0..left.len() {
+    for (s, t) in left.iter().zip(right) {
         let pair = Sides {
-            left: left[i],
-            right: right[i],
+            left: *s,
+            right: *t,
         };
         if is_negated(terms, pair, literal) {
             return true;
@@ -71,8 +69,7 @@ fn is_of_pair(terms: &[Term], literal: Literal, left: &[u16], right: &[u16]) -> 
 
 /// Whether each literal is some pair's negated equality.
 fn only_pairs(terms: &[Term], literals: &[Literal], left: &[u16], right: &[u16]) -> bool
-    requires { length left.now ≡ length right.now }
-    ensures { result ≡ every (λ l. some (λ p. negates (views_of terms.now) p l) (pairs left.now right.now)) literals.now }
+    ensures { result ≡ list_all (λ l. list_any (λ p. negates terms.now p l) (pairs left.now right.now)) literals.now }
 {
     for l in literals {
         if !is_of_pair(terms, *l, left, right) {
@@ -82,27 +79,26 @@ fn only_pairs(terms: &[Term], literals: &[Literal], left: &[u16], right: &[u16])
     true
 }
 
-/// Whether each pair is settled, and only pairs' negated equalities stand before the last literal.
-fn literals_suffice(terms: &[Term], clause: &[Literal], left: &[u16], right: &[u16]) -> bool
-    requires { length left.now ≡ length right.now }
-    ensures { result ≡ congruent_by (views_of terms.now) clause.now (pairs left.now right.now) }
+/// Whether the sides are two terms with one declared name, the pairs of their arguments are settled,
+/// and they account for the literals before the last.
+fn is_congruence(terms: &[Term], clause: &[Literal], before: &[Literal], whole: Sides) -> bool
+    ensures { result ≡ congruent_at terms.now clause.now before.now whole }
 {
-    all_settled(terms, clause, left, right) && only_pairs(terms, front_of(clause), left, right)
+    let left = args_at(terms, whole.left);
+    let right = args_at(terms, whole.right);
+    one_name(head_at(terms, whole.left), head_at(terms, whole.right))
+        && left.len() == right.len()
+        && all_settled(terms, clause, left, right)
+        && only_pairs(terms, before, left, right)
 }
 
 /// Whether the clause's last literal equates two terms with one declared name, and the pairs of their
 /// arguments account for the literals before it.
 pub(crate) fn is_congruent(terms: &[Term], clause: &[Literal]) -> bool
-    ensures { result ≡ congruent (views_of terms.now) clause.now }
+    ensures { result ≡ congruent terms.now clause.now }
 {
-    match last_sides(terms, clause) {
-        None => false,
-        Some(whole) => {
-            let left = args_at(terms, whole.left);
-            let right = args_at(terms, whole.right);
-            one_name(head_at(terms, whole.left), head_at(terms, whole.right))
-                && left.len() == right.len()
-                && literals_suffice(terms, clause, left, right)
-        }
-    }
+    let Some((last, before)) = clause.split_last() else {
+        return false;
+    };
+    equated(terms, false, *last).is_some_and(|whole| is_congruence(terms, clause, before, whole))
 }

@@ -1,8 +1,7 @@
 //! The referee for the rules of equality.
-ghost use Rattle.std.specs.Prelude.{◌≡◌, map};
-ghost use Rattle.entries.specs.Views.{clause_of};
+ghost use Rattle.std.specs.Prelude.{◌≡◌};
 ghost use Rattle.referee.specs.Questions.{asked};
-ghost use Rattle.equality.specs.Meaning.{none, meets_rule, ruled_by, equality};
+ghost use Rattle.equality.specs.Meaning.{meets_rule, ruled_by, equality};
 ghost use Rattle.equality.specs.Lawful.{equality_lawful, equality_modest};
 
 use crate::cong::is_applied;
@@ -11,15 +10,7 @@ use crate::rule::{Rule, rule_named};
 use crate::sides::is_reflexive;
 use crate::trans::is_joined;
 use crate::transitive::is_transitive;
-use entries::Clause;
 use referee::{Question, Referee, Ruling};
-
-/// Whether there are no premises.
-fn no_premises(premises: &[Clause]) -> bool
-    ensures { result ≡ none (map clause_of premises.now) }
-{
-    premises.len() == 0
-}
 
 /// Whether the step meets the rule, its arguments aside.
 fn meets(rule: Rule, question: Question<'_>) -> bool
@@ -31,10 +22,12 @@ fn meets(rule: Rule, question: Question<'_>) -> bool
         premises,
         ..
     } = question;
+    let terms = terms.as_slice();
+    // A match, since the rules are closed.
     match rule {
-        Rule::Reflexive => no_premises(premises) && is_reflexive(terms, clause),
-        Rule::Transitive => no_premises(premises) && is_transitive(terms, clause),
-        Rule::Congruent => no_premises(premises) && is_congruent(terms, clause),
+        Rule::Reflexive => premises.is_empty() && is_reflexive(terms, clause),
+        Rule::Transitive => premises.is_empty() && is_transitive(terms, clause),
+        Rule::Congruent => premises.is_empty() && is_congruent(terms, clause),
         Rule::Trans => is_joined(terms, clause, premises),
         Rule::Cong => is_applied(terms, clause, premises),
     }
@@ -70,9 +63,9 @@ impl Referee for Equality {
     }
 
     fn judge(&self, question: Question<'_>) -> Ruling {
-        match rule_named(question.rule) {
-            None => Ruling::Unmet,
-            Some(rule) => ruling(rule, question),
-        }
+        let Some(rule) = rule_named(question.rule) else {
+            return Ruling::Unmet;
+        };
+        ruling(rule, question)
     }
 }

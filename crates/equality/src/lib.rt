@@ -5,7 +5,6 @@ mod cong;
 mod congruent;
 mod heads;
 mod judge;
-mod last;
 mod rule;
 mod sides;
 mod trans;

@@ -2,8 +2,6 @@
 ghost use Rattle.std.specs.Prelude.{◌≡◌};
 ghost use Rattle.equality.specs.Names.{rule_named};
 
-use referee::same_name;
-
 /// A rule of equality.
 #[derive(Clone, Copy)]
 pub enum Rule {
@@ -19,23 +17,22 @@ pub enum Rule {
     Cong,
 }
 
+/// The rules by their names.
+static NAMED: [(&'static [u8], Rule); 6] = [
+    (b"eq_reflexive", Rule::Reflexive),
+    (b"refl", Rule::Reflexive),
+    (b"eq_transitive", Rule::Transitive),
+    (b"eq_congruent", Rule::Congruent),
+    (b"trans", Rule::Trans),
+    (b"cong", Rule::Cong),
+];
+
 /// The rule with the name `name`.
 pub(crate) fn rule_named(name: &[u8]) -> Option<Rule>
     ensures { result ≡ rule_named name.now }
 {
-    if same_name(name, b"eq_reflexive") {
-        Some(Rule::Reflexive)
-    } else if same_name(name, b"refl") {
-        Some(Rule::Reflexive)
-    } else if same_name(name, b"eq_transitive") {
-        Some(Rule::Transitive)
-    } else if same_name(name, b"eq_congruent") {
-        Some(Rule::Congruent)
-    } else if same_name(name, b"trans") {
-        Some(Rule::Trans)
-    } else if same_name(name, b"cong") {
-        Some(Rule::Cong)
-    } else {
-        None
-    }
+    NAMED
+        .iter()
+        .find(|(known, _)| name == *known)
+        .map(|(_, rule)| *rule)
 }

@@ -1,15 +1,13 @@
 //! Equalities by their two sides.
 ghost use Rattle.std.specs.Prelude.{◌≡◌};
-ghost use Rattle.entries.specs.Equality.{same_literal};
-ghost use Rattle.entries.specs.Views.{views_of};
 ghost use Rattle.equality.specs.Rules.{reflexive};
-ghost use Rattle.equality.specs.Sides.{two_of, equated as equated_sides, only_of, lone as lone_equality, is_sides};
+ghost use Rattle.equality.specs.Sides.{two_of, equated as equated_sides, only_of, lone as lone_equality};
 
 use crate::heads::{args_at, head_at, is_equal};
 use entries::{Literal, Term};
 
 /// The two sides of an equality, terms by their numbers.
-#[derive(Clone, Copy)]
+#[derive(Clone, Copy, PartialEq, Eq)]
 pub struct Sides {
     pub left: u16,
     pub right: u16,
@@ -19,19 +17,18 @@ pub struct Sides {
 fn two_of(args: &[u16]) -> Option<Sides>
     ensures { result ≡ two_of args.now }
 {
-    if args.len() == 2 {
-        Some(Sides {
-            left: args[0],
-            right: args[1],
-        })
-    } else {
-        None
+    match args {
+        [left, right] => Some(Sides {
+            left: *left,
+            right: *right,
+        }),
+        _ => None,
     }
 }
 
 /// The sides of the literal, if it has this sign and its term is an equality.
 pub(crate) fn equated(terms: &[Term], negative: bool, literal: Literal) -> Option<Sides>
-    ensures { result ≡ equated_sides (views_of terms.now) negative literal }
+    ensures { result ≡ equated_sides terms.now negative literal }
 {
     if literal.negative == negative && is_equal(head_at(terms, literal.term)) {
         two_of(args_at(terms, literal.term))
@@ -40,55 +37,30 @@ pub(crate) fn equated(terms: &[Term], negative: bool, literal: Literal) -> Optio
     }
 }
 
-/// Whether two literals have one sign and one term.
-fn same_literal(a: Literal, b: Literal) -> bool
-    ensures { result ≡ same_literal a b }
-{
-    a.negative == b.negative && a.term == b.term
-}
-
 /// The literal of a clause that, as a set, has one.
 fn only_of(clause: &[Literal]) -> Option<Literal>
     ensures { result ≡ only_of clause.now }
 {
-    if clause.len() < 1 {
-        return None;
+    let first = clause.first()?;
+    if clause.iter().all(|l| first == l) {
+        Some(*first)
+    } else {
+        None
     }
-    let first = clause[0];
-    for l in clause {
-        if !same_literal(first, *l) {
-            return None;
-        }
-    }
-    Some(first)
 }
+
+// Terms and clause come apart, since a rule looks at the clauses of premises, too.
 
 /// The sides of the equality that, as a set, is the clause.
 pub(crate) fn lone(terms: &[Term], clause: &[Literal]) -> Option<Sides>
-    ensures { result ≡ lone_equality (views_of terms.now) clause.now }
+    ensures { result ≡ lone_equality terms.now clause.now }
 {
-    match only_of(clause) {
-        None => None,
-        Some(literal) => equated(terms, false, literal),
-    }
+    equated(terms, false, only_of(clause)?)
 }
 
 /// Whether the clause, as a set, is one equality of a term with itself.
 pub(crate) fn is_reflexive(terms: &[Term], clause: &[Literal]) -> bool
-    ensures { result ≡ reflexive (views_of terms.now) clause.now }
+    ensures { result ≡ reflexive terms.now clause.now }
 {
-    match lone(terms, clause) {
-        None => false,
-        Some(sides) => sides.left == sides.right,
-    }
-}
-
-/// Whether there are sides, and they are those of the pair.
-pub(crate) fn is_sides(sides: Option<Sides>, pair: Sides) -> bool
-    ensures { result ≡ is_sides sides pair }
-{
-    match sides {
-        None => false,
-        Some(found) => found.left == pair.left && found.right == pair.right,
-    }
+    lone(terms, clause).is_some_and(|sides| sides.left == sides.right)
 }

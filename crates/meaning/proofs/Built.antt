@@ -2,7 +2,7 @@
 use Rattle.std.proofs.Common.{◌≡◌, ℕ, ◌+◌, ◌<◌, List, [], ◌∷◌, ◌++◌, map, length, get_or, take, drop, fold, sym, refl, ap, ◌∙◌, arith}
 use Rattle.std.specs.List.{AllByRecursion}
 use Rattle.std.proofs.lemmas.List.{length_push, length-take-le, get_or_append_left, get_or_push, take-append-drop, drop_more}
-use Rattle.entries.specs.Views.{TermView}
+use Rattle.entries.specs.declared.entry.Term.{Term}
 use Rattle.meaning.specs.Proper.{no_term, term_at}
 use Rattle.meaning.specs.Values.{next, built}
 
@@ -10,33 +10,33 @@ pub map_same : {X : Type 0} (f g : ℕ → X) (P : ℕ → Type 0) → ((n : ℕ
 map_same f g P e [] w = refl
 map_same f g P e (n ∷ ns) w = let p = e n w.0 in let q = map_same f g P e ns w.1 in cc
 
-module _ {X : Type 0} (none : X) (f : ℕ → TermView → List X → X) where
-  kept : (ts : List TermView) (done : List X) (i : ℕ) (d : X) → i < length done → get_or (fold (next none f) done ts) i d ≡ get_or done i d
+module _ {X : Type 0} (none : X) (f : ℕ → Term → List X → X) where
+  kept : (ts : List Term) (done : List X) (i : ℕ) (d : X) → i < length done → get_or (fold (next none f) done ts) i d ≡ get_or done i d
   kept [] done i d h = refl
   kept (t ∷ ts) done i d h =
       let x = f (length done) t (map (λ n. get_or done n none) t.args) in
       kept ts (done ++ x ∷ []) i d (omega (arith, length_push done x)) ∙ get_or_append_left done (x ∷ []) d i h
 
-  long_from : (ts : List TermView) (done : List X) → length (fold (next none f) done ts) ≡ length done + length ts
+  long_from : (ts : List Term) (done : List X) → length (fold (next none f) done ts) ≡ length done + length ts
   long_from [] done = omega arith
   long_from (t ∷ ts) done =
       let x = f (length done) t (map (λ n. get_or done n none) t.args) in
       omega (arith, long_from ts (done ++ x ∷ []), length_push done x)
 
-  split : (ts us : List TermView) (done : List X) → fold (next none f) done (ts ++ us) ≡ fold (next none f) (fold (next none f) done ts) us
+  split : (ts us : List Term) (done : List X) → fold (next none f) done (ts ++ us) ≡ fold (next none f) (fold (next none f) done ts) us
   split [] us done = refl
   split (t ∷ ts) us done = split ts us (next none f done t)
 
-  pub built_long : (ts : List TermView) → length (built none f ts) ≡ length ts
+  pub built_long : (ts : List Term) → length (built none f ts) ≡ length ts
   built_long ts = omega (arith, long_from ts [])
 
   -- more entries change nothing before them
-  pub built_kept : (ts us : List TermView) (i : ℕ) → i < length ts → get_or (built none f (ts ++ us)) i none ≡ get_or (built none f ts) i none
+  pub built_kept : (ts us : List Term) (i : ℕ) → i < length ts → get_or (built none f (ts ++ us)) i none ≡ get_or (built none f ts) i none
   built_kept ts us i h =
       ap (λ xs. get_or xs i none) (split ts us []) ∙ kept us (built none f ts) i none (omega (arith, built_long ts))
 
   -- each entry gets what `f` makes of what its arguments get
-  pub built_at : (ts : List TermView) (i : ℕ) → i < length ts → AllByRecursion (λ n. n < i) (term_at ts i).args →
+  pub built_at : (ts : List Term) (i : ℕ) → i < length ts → AllByRecursion (λ n. n < i) (term_at ts i).args →
       get_or (built none f ts) i none ≡ f i (term_at ts i) (map (λ n. get_or (built none f ts) n none) (term_at ts i).args)
   built_at ts i h w =
       let front = take i ts in

@@ -3,9 +3,10 @@ use Rattle.std.proofs.Common.{◌≡◌, ℕ, zero, suc, ◌<◌, ◌≤◌, Boo
 use Rattle.std.proofs.lemmas.Bool.{cases_Bool, cond-true, cond-false}
 use Rattle.entries.specs.declared.entry.Head.TheVariants as head
 use Rattle.entries.specs.declared.entry.Literal.{Literal}
+use Rattle.entries.specs.declared.entry.Name.{Name}
+use Rattle.entries.specs.declared.entry.Term.{Term}
 use Rattle.entries.specs.Clauses.{complement_of}
 use Rattle.entries.specs.Equality.{same_kind}
-use Rattle.entries.specs.Views.{NameView, TermView}
 use Rattle.entries.proofs.Alike.{head_of_kind}
 use Rattle.meaning.specs.Proper.{term_at, Proper}
 use Rattle.meaning.specs.Truth.{positive, literal_of, literal_true, signed}
@@ -17,11 +18,11 @@ use Rattle.meaning.proofs.Values.{values_kept, not_args, not_true_of}
 abbrev pub turned : Bool → Literal → Literal
 turned negative l = record { negative = signed negative l.negative; term = l.term }
 
-pub literals_kept : (terms more : List TermView) (n : ℕ) → n < length terms → literal_of (terms ++ more) n ≡ literal_of terms n
+pub literals_kept : (terms more : List Term) (n : ℕ) → n < length terms → literal_of (terms ++ more) n ≡ literal_of terms n
 literals_kept terms more n h =
     built_kept (positive 0) (λ n t ls. cond (same_kind t.head head.Not) (complement_of (get_or ls 0 (positive 0))) (positive n)) terms more n h
 
-module _ (names : List NameView) (terms : List TermView) (ok : Proper names terms) (n : ℕ) (h : n < length terms) where
+module _ (names : List Name) (terms : List Term) (ok : Proper names terms) (n : ℕ) (h : n < length terms) where
   literal_at : literal_of terms n ≡ cond (same_kind (term_at terms n).head head.Not) (complement_of (get_or (map (literal_of terms) (term_at terms n).args) 0 (positive 0))) (positive n)
   literal_at =
       built_at (positive 0) (λ n t ls. cond (same_kind t.head head.Not) (complement_of (get_or ls 0 (positive 0))) (positive n)) terms n h (ok n h).before
@@ -46,10 +47,10 @@ signed_not true true = refl
 signed_not true false = refl
 signed_not false v = refl
 
-pub complement_true : (ρ : Reading) (terms : List TermView) (l : Literal) → literal_true ρ terms (complement_of l) ≡ not (literal_true ρ terms l)
+pub complement_true : (ρ : Reading) (terms : List Term) (l : Literal) → literal_true ρ terms (complement_of l) ≡ not (literal_true ρ terms l)
 complement_true ρ terms l = signed_not l.negative (is_true ρ terms l.term)
 
-module _ (ρ : Reading) (names : List NameView) (terms : List TermView) (ok : Proper names terms) where
+module _ (ρ : Reading) (names : List Name) (terms : List Term) (ok : Proper names terms) where
   below_true : (m n : ℕ) → n < m → n < length terms → literal_true ρ terms (literal_of terms n) ≡ is_true ρ terms n
   below_true zero n b h = absurd (omega arith)
   below_true (suc m) n b h = elim (cases_Bool (same_kind (term_at terms n).head head.Not)) [
@@ -66,7 +67,7 @@ module _ (ρ : Reading) (names : List NameView) (terms : List TermView) (ok : Pr
   literal_true_lem n h = below_true (suc n) n (omega arith) h
 
 -- ---- a literal's term stands in the list, and is no `not`
-module _ (names : List NameView) (terms : List TermView) (ok : Proper names terms) where
+module _ (names : List Name) (terms : List Term) (ok : Proper names terms) where
   below_stripped : (m n : ℕ) → n < m → n < length terms → ((literal_of terms n).term ≤ n) × (same_kind (term_at terms (literal_of terms n).term).head head.Not ≡ false)
   below_stripped zero n b h = absurd (omega arith)
   below_stripped (suc m) n b h = elim (cases_Bool (same_kind (term_at terms n).head head.Not)) [
@@ -87,5 +88,5 @@ module _ (names : List NameView) (terms : List TermView) (ok : Proper names term
   literal_stripped n h = (below_stripped (suc n) n (omega arith) h).1
 
 -- ---- more terms change no earlier truth
-pub literal_true_kept : (ρ : Reading) (terms more : List TermView) (l : Literal) → l.term < length terms → literal_true ρ (terms ++ more) l ≡ literal_true ρ terms l
+pub literal_true_kept : (ρ : Reading) (terms more : List Term) (l : Literal) → l.term < length terms → literal_true ρ (terms ++ more) l ≡ literal_true ρ terms l
 literal_true_kept ρ terms more l h = ap (λ v. signed l.negative (holds v)) (values_kept ρ terms more l.term h)

@@ -1,12 +1,10 @@
 -- The steps of a loop that takes the leading `not`s off a term.
-use Rattle.std.proofs.Common.{◌≡◌, ℕ, ◌<◌, ◌≤◌, Bool, true, false, not, List, [], ◌∷◌, map, length, get_or, sym, refl, ap, ◌∙◌, arith}
-use Rattle.std.proofs.lemmas.List.{length-map}
+use Rattle.std.proofs.Common.{◌≡◌, ℕ, ◌<◌, ◌≤◌, Bool, true, false, not, List, [], ◌∷◌, length, get_or, sym, refl, ap, ◌∙◌, arith}
 use Rattle.entries.specs.declared.entry.Head.TheVariants as head
 use Rattle.entries.specs.declared.entry.Literal.{Literal}
 use Rattle.entries.specs.declared.entry.Term.{Term}
 use Rattle.entries.specs.Clauses.{complement_of}
 use Rattle.entries.specs.Equality.{same_kind}
-use Rattle.entries.specs.Views.{term_of}
 use Rattle.meaning.specs.Proper.{Formed, term_at}
 use Rattle.meaning.specs.Truth.{positive, literal_of, literal_true}
 use Rattle.meaning.specs.Values.{Reading, is_true}
@@ -25,16 +23,13 @@ own : (s : Bool) (n : ℕ) → turned s (positive n) ≡ record { negative = s; 
 own true n = refl
 own false n = refl
 
-module _ (ts : List Term) (formed : Formed (map term_of ts)) (n at : ℕ) (s : Bool) (h : at < length ts)
-    (inv : turned s (literal_of (map term_of ts) at) ≡ literal_of (map term_of ts) n) where
-  within : at < length (map term_of ts)
-  within = omega (arith, length-map ts term_of)
+module _ (ts : List Term) (formed : Formed ts) (n at : ℕ) (s : Bool) (h : at < length ts)
+    (inv : turned s (literal_of ts at) ≡ literal_of ts n) where
+  module _ (e : same_kind (term_at ts at).head head.Not ≡ true) where
+    inner : (a : ℕ) × ((term_at ts at).args ≡ a ∷ []) × (a < at)
+    inner = not_args formed.0 ts formed.1 at h (is_not formed.0 ts formed.1 at h e)
 
-  module _ (e : same_kind (term_at (map term_of ts) at).head head.Not ≡ true) where
-    inner : (a : ℕ) × ((term_at (map term_of ts) at).args ≡ a ∷ []) × (a < at)
-    inner = not_args formed.0 (map term_of ts) formed.1 at within (is_not formed.0 (map term_of ts) formed.1 at within e)
-
-    module _ (ns : List ℕ) (is : ns ≡ (term_at (map term_of ts) at).args) where
+    module _ (ns : List ℕ) (is : ns ≡ (term_at ts at).args) where
       args_is : ns ≡ inner.0 ∷ []
       args_is = is ∙ inner.1
 
@@ -47,24 +42,24 @@ module _ (ts : List Term) (formed : Formed (map term_of ts)) (n at : ℕ) (s : B
       pub strip_less : get_or ns 0 0 < at
       strip_less = omega (arith, first_is, inner.2)
 
-      pub strip_again : (get_or ns 0 0 < length ts) × (turned (not s) (literal_of (map term_of ts) (get_or ns 0 0)) ≡ literal_of (map term_of ts) n)
+      pub strip_again : (get_or ns 0 0 < length ts) × (turned (not s) (literal_of ts (get_or ns 0 0)) ≡ literal_of ts n)
       unfolding inner
       strip_again = (
         omega (arith, strip_less),
-        turn s (literal_of (map term_of ts) (get_or ns 0 0)) ∙ ap (λ m. turned s (complement_of (literal_of (map term_of ts) m))) first_is
-            ∙ ap (turned s) (sym (literal_inner formed.0 (map term_of ts) formed.1 at within e)) ∙ inv,
+        turn s (literal_of ts (get_or ns 0 0)) ∙ ap (λ m. turned s (complement_of (literal_of ts m))) first_is
+            ∙ ap (turned s) (sym (literal_inner formed.0 ts formed.1 at h e)) ∙ inv,
       )
 
-  pub strip_done : same_kind (term_at (map term_of ts) at).head head.Not ≡ false → record { negative = s; term = at } ≡ literal_of (map term_of ts) n
-  strip_done e = sym (own s at) ∙ ap (turned s) (sym (literal_own formed.0 (map term_of ts) formed.1 at within e)) ∙ inv
+  pub strip_done : same_kind (term_at ts at).head head.Not ≡ false → record { negative = s; term = at } ≡ literal_of ts n
+  strip_done e = sym (own s at) ∙ ap (turned s) (sym (literal_own formed.0 ts formed.1 at h e)) ∙ inv
 
 -- the literal's term does not stand after the term
-pub term_of_lem : (ts : List Term) (n : ℕ) (l : Literal) → Formed (map term_of ts) → n < length ts → l ≡ literal_of (map term_of ts) n → l.term ≤ n
+pub term_of_lem : (ts : List Term) (n : ℕ) (l : Literal) → Formed ts → n < length ts → l ≡ literal_of ts n → l.term ≤ n
 term_of_lem ts n l formed h e =
-    omega (arith, ap (λ (m : Literal). m.term) e, literal_within formed.0 (map term_of ts) formed.1 n (omega (arith, length-map ts term_of)))
+    omega (arith, ap (λ (m : Literal). m.term) e, literal_within formed.0 ts formed.1 n h)
 
 -- the literal is true where the term is
-pub truth_of : (ts : List Term) (n : ℕ) (l : Literal) → Formed (map term_of ts) → n < length ts → l ≡ literal_of (map term_of ts) n → (ρ : Reading) →
-    literal_true ρ (map term_of ts) l ≡ is_true ρ (map term_of ts) n
+pub truth_of : (ts : List Term) (n : ℕ) (l : Literal) → Formed ts → n < length ts → l ≡ literal_of ts n → (ρ : Reading) →
+    literal_true ρ ts l ≡ is_true ρ ts n
 truth_of ts n l formed h e ρ =
-    ap (literal_true ρ (map term_of ts)) e ∙ literal_true_lem ρ formed.0 (map term_of ts) formed.1 n (omega (arith, length-map ts term_of))
+    ap (literal_true ρ ts) e ∙ literal_true_lem ρ formed.0 ts formed.1 n h

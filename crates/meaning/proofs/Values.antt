@@ -1,18 +1,19 @@
 -- What the values of a proper list are.
 use Rattle.std.proofs.Common.{◌≡◌, ℕ, ◌<◌, Bool, true, false, not, ◌&&◌, ◌||◌, ltb, List, [], ◌∷◌, map, length, ℤ, pos, negsuc, Decides, sym, refl, ap, ◌∙◌, subst, inl, inr, arith}
 use lib.Signed.{le_z, lt_z}
-use Rattle.std.specs.List.{AllByRecursion}
+use Rattle.std.specs.List.{AllByRecursion, list_any, list_all}
 use Rattle.std.proofs.lemmas.List.{length-map}
 use Rattle.std.proofs.lemmas.Bool.{and_parts, eqb-true, eq-eqb, ltb-true, false≢true}
+use Rattle.entries.specs.declared.entry.Name.{Name}
 use Rattle.entries.specs.declared.entry.Sort.{Sort}
 use Rattle.entries.specs.declared.entry.Sort.TheVariants as sort
 use Rattle.entries.specs.declared.entry.Head.{Head}
 use Rattle.entries.specs.declared.entry.Head.TheVariants as head
-use Rattle.entries.specs.Views.{NameView, TermView}
+use Rattle.entries.specs.declared.entry.Term.{Term}
 use Rattle.meaning.specs.Laws.{ValuesKept, BoolBits, TrueAtOne}
 use Rattle.meaning.specs.Proper.{term_at, sort_at, scales, Proper}
 use Rattle.meaning.specs.Sorts.{name_at, same_sorts, takes_sorts, gives_sort}
-use Rattle.meaning.specs.Values.{Reading, Fits, Bit, some, every, same_value, holds, fact, value, value_of, is_true}
+use Rattle.meaning.specs.Values.{Reading, Fits, Bit, same_value, holds, fact, value, value_of, is_true}
 use Rattle.meaning.proofs.Built.{built_kept, built_at}
 use Rattle.meaning.proofs.Sorted.{same_sorts_decides, one_from_map, two_from_map, twins_from_map}
 
@@ -41,7 +42,7 @@ holds_fact true = refl
 holds_fact false = refl
 
 -- ---- the value of a term, from its arguments' values
-module _ (ρ : Reading) (names : List NameView) (terms : List TermView) (ok : Proper names terms) (n : ℕ) (h : n < length terms) where
+module _ (ρ : Reading) (names : List Name) (terms : List Term) (ok : Proper names terms) (n : ℕ) (h : n < length terms) where
   pub value_at : value_of ρ terms n ≡ value ρ (term_at terms n).head (map (value_of ρ terms) (term_at terms n).args)
   value_at = built_at (pos 0) (λ n t vs. value ρ t.head vs) terms n h (ok n h).before
 
@@ -63,7 +64,7 @@ fact_bit false = inl refl
 int_bool : {X : Type 0} → ◌≡◌ {A = Sort} sort.Int sort.Bool → X
 int_bool e = let z : ◌≡◌ {A = ℕ} 0 1 = cc in absurd (omega arith)
 
-module _ (ρ : Reading) (names : List NameView) (fits : Fits names ρ) where
+module _ (ρ : Reading) (names : List Name) (fits : Fits names ρ) where
   bit : (h : Head) (ss : List Sort) (vs : List ℤ) → takes_sorts names h ss ≡ true → gives_sort names h ≡ sort.Bool → length vs ≡ length ss → Bit (value ρ h vs)
   bit head.True ss vs t e l = inr refl
   bit head.False ss vs t e l = inl refl
@@ -101,16 +102,16 @@ bits_same v w (inr a) (inl b) e = absurd (false≢true (sym (ap holds b) ∙ sym
 bits_same v w (inr a) (inr b) e = a ∙ sym b
 
 -- ---- where a term with a connective is true
-pub every_map : {X Y : Type 0} (f : X → Y) (p : Y → Bool) (xs : List X) → every p (map f xs) ≡ every (λ x. p (f x)) xs
+pub every_map : {X Y : Type 0} (f : X → Y) (p : Y → Bool) (xs : List X) → list_all p (map f xs) ≡ list_all (λ x. p (f x)) xs
 every_map f p [] = refl
 every_map f p (x ∷ xs) = ap (λ b. p (f x) && b) (every_map f p xs)
 
-pub some_map : {X Y : Type 0} (f : X → Y) (p : Y → Bool) (xs : List X) → some p (map f xs) ≡ some (λ x. p (f x)) xs
+pub some_map : {X Y : Type 0} (f : X → Y) (p : Y → Bool) (xs : List X) → list_any p (map f xs) ≡ list_any (λ x. p (f x)) xs
 some_map f p [] = refl
 some_map f p (x ∷ xs) = ap (λ b. p (f x) || b) (some_map f p xs)
 
 -- the arguments of a term with an operator
-module _ (names : List NameView) (terms : List TermView) (ok : Proper names terms) (n : ℕ) (h : n < length terms) where
+module _ (names : List Name) (terms : List Term) (ok : Proper names terms) (n : ℕ) (h : n < length terms) where
   pub takes_by : (k : Head) → (term_at terms n).head ≡ k → takes_sorts names k (map (sort_at terms) (term_at terms n).args) ≡ true
   takes_by k e =
       let t = term_at terms n in
@@ -138,11 +139,11 @@ module _ (names : List NameView) (terms : List TermView) (ok : Proper names term
   equal_args e = twins_from_map (sort_at terms) (term_at terms n).args (takes_by head.Equal e)
 
 -- where the term is true
-module _ (ρ : Reading) (names : List NameView) (terms : List TermView) (ok : Proper names terms) (n : ℕ) (h : n < length terms) where
-  pub and_true : (term_at terms n).head ≡ head.And → is_true ρ terms n ≡ every (is_true ρ terms) (term_at terms n).args
+module _ (ρ : Reading) (names : List Name) (terms : List Term) (ok : Proper names terms) (n : ℕ) (h : n < length terms) where
+  pub and_true : (term_at terms n).head ≡ head.And → is_true ρ terms n ≡ list_all (is_true ρ terms) (term_at terms n).args
   and_true e = fact_over ρ names terms ok n h head.And _ _ e refl refl ∙ every_map (value_of ρ terms) holds (term_at terms n).args
 
-  pub or_true : (term_at terms n).head ≡ head.Or → is_true ρ terms n ≡ some (is_true ρ terms) (term_at terms n).args
+  pub or_true : (term_at terms n).head ≡ head.Or → is_true ρ terms n ≡ list_any (is_true ρ terms) (term_at terms n).args
   or_true e = fact_over ρ names terms ok n h head.Or _ _ e refl refl ∙ some_map (value_of ρ terms) holds (term_at terms n).args
 
   pub not_true_of : (term_at terms n).head ≡ head.Not → (a : ℕ) → (term_at terms n).args ≡ a ∷ [] → is_true ρ terms n ≡ not (is_true ρ terms a)

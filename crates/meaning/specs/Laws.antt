@@ -1,35 +1,36 @@
 -- What the values of terms are worth, and what keeps a list proper.
 use Rattle.std.specs.Prelude.{◌≡◌, ℕ, ◌<◌, List, [], ◌∷◌, ◌++◌, length, pos, Decides, ◌≢◌, slice_index_or}
 use Rattle.entries.specs.declared.entry.Literal.{Literal}
+use Rattle.entries.specs.declared.entry.Name.{Name}
 use Rattle.entries.specs.declared.entry.Sort.TheVariants as sort
+use Rattle.entries.specs.declared.entry.Term.{Term}
 use Rattle.entries.specs.Clauses.{holds_literal, clause_from}
-use Rattle.entries.specs.Views.{NameView, TermView}
 use Rattle.meaning.specs.Proper.{Proper, ProperAt, sort_at}
 use Rattle.meaning.specs.Values.{Reading, Fits, Bit, value_of, is_true}
 
 -- A term is true exactly where its value is 1.
 abbrev pub TrueAtOne : Type 0
-TrueAtOne = (ρ : Reading) (terms : List TermView) (n : ℕ) → Decides (is_true ρ terms n) (value_of ρ terms n ≡ pos 1)
+TrueAtOne = (ρ : Reading) (terms : List Term) (n : ℕ) → Decides (is_true ρ terms n) (value_of ρ terms n ≡ pos 1)
 
 -- More terms change no earlier value.
 abbrev pub ValuesKept : Type 0
-ValuesKept = (ρ : Reading) (terms more : List TermView) (n : ℕ) → n < length terms → value_of ρ (terms ++ more) n ≡ value_of ρ terms n
+ValuesKept = (ρ : Reading) (terms more : List Term) (n : ℕ) → n < length terms → value_of ρ (terms ++ more) n ≡ value_of ρ terms n
 
 -- Under a fitting reading a Bool term of a proper list is worth 0 or 1.
 abbrev pub BoolBits : Type 0
 BoolBits =
-    (ρ : Reading) (names : List NameView) (terms : List TermView) → Proper names terms → Fits names ρ →
+    (ρ : Reading) (names : List Name) (terms : List Term) → Proper names terms → Fits names ρ →
     (n : ℕ) → n < length terms → sort_at terms n ≡ sort.Bool → Bit (value_of ρ terms n)
 
 -- A proper list stays proper where a proper term goes to its end.
 abbrev pub ProperKept : Type 0
 ProperKept =
-    (names : List NameView) (terms : List TermView) (t : TermView) → Proper names terms → ProperAt names terms (length terms) t →
+    (names : List Name) (terms : List Term) (t : Term) → Proper names terms → ProperAt names terms (length terms) t →
     Proper names (terms ++ t ∷ [])
 
 -- A proper list stays proper where more names are declared.
 abbrev pub NamesKept : Type 0
-NamesKept = (names more : List NameView) (terms : List TermView) → Proper names terms → Proper (names ++ more) terms
+NamesKept = (names more : List Name) (terms : List Term) → Proper names terms → Proper (names ++ more) terms
 
 -- A clause has the literals that were written, each of them once.
 pub record AsWritten (written clause : List Literal) : Type 0 where

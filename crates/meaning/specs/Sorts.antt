@@ -1,11 +1,12 @@
 -- Which sorts a head takes, and which sort it gives.
 use Rattle.std.specs.Prelude.{ℕ, Bool, true, false, ◌&&◌, ◌||◌, List, [], ◌∷◌, length, nat_le, nat_lt, slice_index_or}
+use Rattle.std.specs.List.{list_all}
 use Rattle.entries.specs.declared.entry.Head.{Head}
 use Rattle.entries.specs.declared.entry.Head.TheVariants as head
+use Rattle.entries.specs.declared.entry.Name.{Name}
 use Rattle.entries.specs.declared.entry.Sort.{Sort}
 use Rattle.entries.specs.declared.entry.Sort.TheVariants as sort
 use Rattle.entries.specs.Equality.{same_sort}
-use Rattle.entries.specs.Views.{NameView}
 
 -- Two lists of sorts are the same.
 abbrev pub same_sorts : List Sort → List Sort → Bool
@@ -16,8 +17,7 @@ same_sorts (a ∷ rest) (b ∷ bs) = same_sort a b && same_sorts rest bs
 
 -- Each is the sort s.
 abbrev pub all : Sort → List Sort → Bool
-all s [] = true
-all s (a ∷ rest) = same_sort a s && all s rest
+all s ss = list_all (λ a. same_sort a s) ss
 
 -- Two or more, each of them the sort s.
 abbrev pub many : Sort → List Sort → Bool
@@ -30,15 +30,15 @@ twins (a ∷ []) = false
 twins (a ∷ b ∷ []) = same_sort a b
 twins (a ∷ b ∷ c ∷ ss) = false
 
-abbrev pub no_name : NameView
+abbrev pub no_name : Name
 no_name = record { word = []; takes = []; gives = sort.Bool }
 
 -- The declared name with a number.
-abbrev pub name_at : List NameView → ℕ → NameView
+abbrev pub name_at : List Name → ℕ → Name
 name_at names f = slice_index_or names f no_name
 
 -- Whether a head takes arguments of these sorts.
-abbrev pub takes_sorts : List NameView → Head → List Sort → Bool
+abbrev pub takes_sorts : List Name → Head → List Sort → Bool
 takes_sorts names head.True ss = same_sorts ss []
 takes_sorts names head.False ss = same_sorts ss []
 takes_sorts names head.Not ss = same_sorts ss (sort.Bool ∷ [])
@@ -57,7 +57,7 @@ takes_sorts names (head.Numeral n) ss = same_sorts ss []
 takes_sorts names (head.Declared f) ss = nat_lt f (length names) && same_sorts ss (name_at names f).takes
 
 -- The sort that a head gives.
-abbrev pub gives_sort : List NameView → Head → Sort
+abbrev pub gives_sort : List Name → Head → Sort
 gives_sort names head.True = sort.Bool
 gives_sort names head.False = sort.Bool
 gives_sort names head.Not = sort.Bool

@@ -1,14 +1,14 @@
 //! What terms mean: readings, values, and where literals and clauses are true.
 #![tactic(auto)]
 
-mod read;
+mod terms;
 #[cfg(test)]
 mod tests;
 
 ghost use Rattle.std.specs.Prelude.{IsTrue};
 ghost use Rattle.meaning.specs.Laws.{ValuesKept, BoolBits, TrueAtOne, ProperKept, NamesKept, ClausesWritten};
 
-pub use read::{clause_of, literal_of, term_at};
+pub use terms::{Terms, term_at};
 
 /// The laws of values, of proper lists and of clauses: each `ensures` is a theorem.
 pub fn values_stand() -> bool

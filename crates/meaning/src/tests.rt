@@ -1,5 +1,5 @@
 //! The literals of leading `not`s.
-use crate::{clause_of, literal_of};
+use crate::Terms;
 use entries::{Head, Literal, Sort, Term};
 use std::test::Fail;
 
@@ -8,12 +8,13 @@ fn two_nots_cancel(rt: HostRuntime) -> Result<(), Fail> {
     let plain = Term::new(Head::True, Sort::Bool, &[]);
     let once = Term::new(Head::Not, Sort::Bool, &[0]);
     let twice = Term::new(Head::Not, Sort::Bool, &[1]);
-    let terms = [plain, once, twice];
-    let odd = literal_of(&terms, 1);
-    let even = literal_of(&terms, 2);
+    let list = [plain, once, twice];
+    let terms = Terms::new(&list);
+    let odd = terms.literal(1);
+    let even = terms.literal(2);
     assert!(rt; odd.negative && odd.term == 0);
     assert!(rt; !even.negative && even.term == 0);
-    let clause = clause_of(&terms, &[2, 1, 0]);
+    let clause = terms.clause(&[2, 1, 0]);
     assert_eq!(rt; clause.literals().len(), 2);
     Ok(())
 }

@@ -1,5 +1,4 @@
 pub mod Samples
 pub mod Scans
 pub mod Members
-pub mod Finds
 pub mod Worked

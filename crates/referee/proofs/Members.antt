@@ -1,10 +1,9 @@
 -- What stands in a list, and what `some` and `every` say of it.
 use Rattle.std.proofs.Common.{◌≡◌, ℕ, zero, suc, ◌<◌, Bool, true, false, ◌⊎◌, List, [], ◌∷◌, ◌++◌, length, refl, inl, inr, sym, ap, subst, ◌∙◌, arith}
 use Rattle.std.specs.Prelude.{filter, slice_index_or}
-use Rattle.std.specs.List.{ContainsAt as Has, flat_map}
+use Rattle.std.specs.List.{ContainsAt as Has, flat_map, list_any, list_all}
 use Rattle.std.proofs.ByRecursion.{has_append_left, has_append_right}
 use Rattle.std.proofs.lemmas.Bool.{cases_Bool, and_parts, and_from, or_cases, or_left, or_right, both_ways, cond-true, cond-false, false≢true}
-use Rattle.meaning.specs.Values.{some, every}
 
 module _ {X : Type 0} where
   pub has_none : (x : X) → Has [] x → ⊥
@@ -31,36 +30,36 @@ module _ {X : Type 0} where
   ]
 
   module _ (f : X → Bool) where
-    pub some_has : (xs : List X) → some f xs ≡ true → (x : X) × Has xs x × (f x ≡ true)
+    pub some_has : (xs : List X) → list_any f xs ≡ true → (x : X) × Has xs x × (f x ≡ true)
     some_has [] e = absurd (false≢true e)
-    some_has (x ∷ xs) e = elim (or_cases (f x) (some f xs) e) [
+    some_has (x ∷ xs) e = elim (or_cases (f x) (list_any f xs) e) [
       | inl t ↦ (x, has_first x xs, t)
       | inr t ↦ let w = some_has xs t in (w.0, has_on x xs w.0 w.1, w.2)
     ]
 
-    pub has_some : (xs : List X) (x : X) → Has xs x → f x ≡ true → some f xs ≡ true
+    pub has_some : (xs : List X) (x : X) → Has xs x → f x ≡ true → list_any f xs ≡ true
     has_some [] x h t = absurd (omega (arith, h.1))
     has_some (y ∷ xs) x h t = elim (has_cases y xs x h) [
-      | inl e ↦ or_left (f y) (some f xs) (ap f e ∙ t)
-      | inr k ↦ or_right (f y) (some f xs) (has_some xs x k t)
+      | inl e ↦ or_left (f y) (list_any f xs) (ap f e ∙ t)
+      | inr k ↦ or_right (f y) (list_any f xs) (has_some xs x k t)
     ]
 
-    pub some_not : (xs : List X) → some f xs ≡ false → (x : X) → Has xs x → f x ≡ false
+    pub some_not : (xs : List X) → list_any f xs ≡ false → (x : X) → Has xs x → f x ≡ false
     some_not xs e x h = elim (cases_Bool (f x)) [
-      | inl t ↦ absurd (both_ways (some f xs) e (has_some xs x h t))
+      | inl t ↦ absurd (both_ways (list_any f xs) e (has_some xs x h t))
       | inr n ↦ n
     ]
 
-    pub every_has : (xs : List X) → every f xs ≡ true → (x : X) → Has xs x → f x ≡ true
+    pub every_has : (xs : List X) → list_all f xs ≡ true → (x : X) → Has xs x → f x ≡ true
     every_has [] e x h = absurd (omega (arith, h.1))
     every_has (y ∷ xs) e x h = elim (has_cases y xs x h) [
-      | inl q ↦ ap f (sym q) ∙ (and_parts (f y) (every f xs) e).0
-      | inr k ↦ every_has xs (and_parts (f y) (every f xs) e).1 x k
+      | inl q ↦ ap f (sym q) ∙ (and_parts (f y) (list_all f xs) e).0
+      | inr k ↦ every_has xs (and_parts (f y) (list_all f xs) e).1 x k
     ]
 
-    pub has_every : (xs : List X) → ((x : X) → Has xs x → f x ≡ true) → every f xs ≡ true
+    pub has_every : (xs : List X) → ((x : X) → Has xs x → f x ≡ true) → list_all f xs ≡ true
     has_every [] h = refl
-    has_every (x ∷ xs) h = and_from (f x) (every f xs) (h x (has_first x xs)) (has_every xs (λ y k. h y (has_on x xs y k)))
+    has_every (x ∷ xs) h = and_from (f x) (list_all f xs) (h x (has_first x xs)) (has_every xs (λ y k. h y (has_on x xs y k)))
 
     pub has_kept : (xs : List X) (x : X) → Has xs x → f x ≡ true → Has (filter f xs) x
     has_kept [] x h t = absurd (omega (arith, h.1))

@@ -1,7 +1,7 @@
 -- Worked cases by one computed test.
 use Rattle.std.proofs.Common.{◌≡◌, ℕ, Bool, true, eqb, List, [], ◌∷◌, get_or, sym, refl, ap, ◌∙◌}
+use Rattle.std.specs.List.{list_all}
 use Rattle.std.proofs.lemmas.Bool.{and_parts, eqb-true}
-use Rattle.meaning.specs.Values.{every}
 use Rattle.referee.specs.Cases.{Case, Worked}
 use Rattle.referee.specs.Meaning.{Meaning}
 use Rattle.referee.specs.declared.ruling.Ruling.{Ruling}
@@ -27,9 +27,9 @@ at_place Overflow = refl
 abbrev pub works : Meaning → Case → Bool
 works m c = eqb (place (m.judge c.question)) (place c.ruling)
 
-pub all_worked : (m : Meaning) (cs : List Case) → every (works m) cs ≡ true → Worked m cs
+pub all_worked : (m : Meaning) (cs : List Case) → list_all (works m) cs ≡ true → Worked m cs
 all_worked m [] e = tt
 all_worked m (c ∷ cs) e =
-    let both = and_parts (works m c) (every (works m) cs) e in
+    let both = and_parts (works m c) (list_all (works m) cs) e in
     let answer = m.judge c.question in
     (at_place answer ∙ ap ruling_at (eqb-true (place answer) (place c.ruling) both.0) ∙ sym (at_place c.ruling), all_worked m cs both.1)

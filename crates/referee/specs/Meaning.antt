@@ -1,9 +1,10 @@
 -- What a referee means, and the law that it keeps.
 use Rattle.std.specs.Prelude.{◌≡◌, ℕ, Bool, true, false, cond, ◌||◌, List}
-use Rattle.entries.specs.Views.{NameView}
+use Rattle.std.specs.List.{list_all}
+use Rattle.entries.specs.declared.entry.Name.{Name}
 use Rattle.meaning.specs.Proper.{Proper}
 use Rattle.meaning.specs.Truth.{clause_true}
-use Rattle.meaning.specs.Values.{Reading, Fits, every}
+use Rattle.meaning.specs.Values.{Reading, Fits}
 use Rattle.referee.specs.Questions.{Asked, Posed}
 use Rattle.referee.specs.declared.ruling.Ruling.{Ruling}
 use Rattle.referee.specs.declared.ruling.Ruling.TheVariants.{Yes, Unmet}
@@ -14,13 +15,13 @@ pub record Meaning : Type 0 where
   pub judge : Asked → Ruling
 
 -- Each fitting reading that makes all premises true makes the clause true.
-abbrev pub Entailed : List NameView → Asked → Type 0
+abbrev pub Entailed : List Name → Asked → Type 0
 Entailed names q =
-    (ρ : Reading) → Fits names ρ → every (clause_true ρ q.terms) q.premises ≡ true → clause_true ρ q.terms q.clause ≡ true
+    (ρ : Reading) → Fits names ρ → list_all (clause_true ρ q.terms) q.premises ≡ true → clause_true ρ q.terms q.clause ≡ true
 
 -- The law of a referee: what it says yes to is entailed.
 abbrev pub Lawful : Meaning → Type 0
-Lawful m = (names : List NameView) (q : Asked) → Proper names q.terms → Posed q → m.judge q ≡ Yes → Entailed names q
+Lawful m = (names : List Name) (q : Asked) → Proper names q.terms → Posed q → m.judge q ≡ Yes → Entailed names q
 
 -- A name that a referee does not know is judged as a rule that is not met.
 abbrev pub Modest : Meaning → Type 0

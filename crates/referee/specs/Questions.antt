@@ -1,14 +1,14 @@
 -- What a referee is asked.
-use Rattle.std.specs.Prelude.{ℕ, ◌<◌, ◌≤◌, List, map, length, ℤ, unsigned_abs}
+use Rattle.std.specs.Prelude.{ℕ, ◌<◌, ◌≤◌, List, length, ℤ, unsigned_abs}
 use Rattle.std.specs.List.{AllByRecursion}
 use Rattle.entries.specs.declared.entry.Literal.{Literal}
-use Rattle.entries.specs.Views.{TermView, views_of, clause_of}
+use Rattle.entries.specs.declared.entry.Term.{Term}
 use Rattle.meaning.specs.Proper.{Formed}
 use Rattle.referee.specs.declared.question.Question.{Question}
 
 -- A question: the terms of the sheet, the name of a rule, a clause, the premises' clauses in order, and arguments.
 pub record Asked : Type 0 where
-  pub terms : List TermView
+  pub terms : List Term
   pub rule : List ℕ
   pub clause : List Literal
   pub premises : List (List Literal)
@@ -16,15 +16,15 @@ pub record Asked : Type 0 where
 
 abbrev pub asked : Question → Asked
 asked q = record {
-  terms = views_of q.terms.now;
+  terms = q.terms.now;
   rule = q.rule.now;
   clause = q.clause.now;
-  premises = map clause_of q.premises.now;
+  premises = q.premises.now;
   args = q.args.now;
 }
 
 -- The literal's term is one of the list.
-abbrev pub Among : List TermView → Literal → Type 0
+abbrev pub Among : List Term → Literal → Type 0
 Among terms l = l.term < length terms
 
 -- What every question keeps: its terms have the order, counts and sorts that they have to have, and its literals are among

@@ -3,11 +3,12 @@ use Rattle.std.specs.Prelude.{ℕ, true, false, List, [], ◌∷◌, ℤ, codes}
 use Rattle.entries.specs.declared.entry.Head.{Head}
 use Rattle.entries.specs.declared.entry.Head.TheVariants as head
 use Rattle.entries.specs.declared.entry.Literal.{Literal}
+use Rattle.entries.specs.declared.entry.Name.{Name}
 use Rattle.entries.specs.declared.entry.Sort.TheVariants as sort
-use Rattle.entries.specs.Views.{NameView, TermView}
+use Rattle.entries.specs.declared.entry.Term.{Term}
 use Rattle.referee.specs.Questions.{Asked}
 
-abbrev pub names : List NameView
+abbrev pub names : List Name
 names =
     record { word = codes "p"; takes = []; gives = sort.Bool } ∷
     record { word = codes "q"; takes = []; gives = sort.Bool } ∷
@@ -17,10 +18,10 @@ names =
     record { word = codes "f"; takes = sort.Int ∷ []; gives = sort.Int } ∷
     []
 
-abbrev bool : Head → List ℕ → TermView
+abbrev bool : Head → List ℕ → Term
 bool h args = record { head = h; sort = sort.Bool; args = args }
 
-abbrev int : Head → List ℕ → TermView
+abbrev int : Head → List ℕ → Term
 int h args = record { head = h; sort = sort.Int; args = args }
 
 -- The number of each term.
@@ -90,7 +91,7 @@ a_below_1 = 20
 abbrev pub one_below_a : ℕ
 one_below_a = 21
 
-abbrev pub terms : List TermView
+abbrev pub terms : List Term
 terms =
     bool (head.Declared 0) [] ∷
     bool (head.Declared 1) [] ∷

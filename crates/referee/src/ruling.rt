@@ -5,6 +5,7 @@ ghost use Rattle.referee.specs.Rulings.{number_of, message_of};
 use std::fmt;
 
 /// The answer of a referee: the step keeps its rule, or why not.
+// No `Result`, which is no plainer: a yes has words of its own, and no `?` hands a ruling on.
 #[derive(Clone, Copy, Debug, PartialEq, Eq)]
 pub enum Ruling {
     Yes,

@@ -1,6 +1,5 @@
 pub mod Calls
 pub mod Claims
-pub mod Heads
 pub mod Leaves
 pub mod Midway
 pub mod Placing

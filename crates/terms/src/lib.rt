@@ -3,6 +3,7 @@
 
 mod claim;
 mod guard;
+mod list;
 mod place;
 mod read;
 

@@ -1,23 +1,25 @@
 //! Reading a term from its tokens into the list: arguments first, from the left.
-ghost use Rattle.std.specs.Prelude.{◌≡◌, ◌<◌, ◌≤◌, false, ◌∷◌, map, length, take, IfOk};
+ghost use Rattle.std.specs.Prelude.{◌≡◌, ◌<◌, ◌≤◌, false, ◌∷◌, length, take, IfOk};
 ghost use Rattle.std.specs.List.{AllByRecursion};
 ghost use Rattle.text.specs.Reading.{left};
 ghost use Rattle.text.specs.Tokens.{seen, opens};
 ghost use Rattle.entries.specs.Filing.{room};
-ghost use Rattle.entries.specs.Views.{name_of, terms_of};
+ghost use Rattle.terms.specs.Memory.{listed, most, Onward};
 ghost use Rattle.terms.specs.Reading.{told, Begins, ReadsTree, told_all, BeginsAll, ReadsTrees};
 ghost use Rattle.terms.specs.State.{Ready, Grown};
 
-use crate::place::{head_named, place_term};
+use crate::list::TermList;
 use declarations::TermFault;
-use entries::{Head, Name, Term};
+use entries::limits::MOST_ARGUMENTS;
+use entries::{Few, Head, Name, Term};
 use forms::{next, symbol};
 use text::{Reader, Token};
+
+// Memory and count come apart: both are the caller's, who lends them for the call.
 
 /// Reads the term that begins with `first`: its number, and the reader after it. With `wants` it
 /// has to be `Bool`. A refusal may leave arguments that were read before it behind the old terms;
 /// `read_claim` takes them back.
-#[cycle(read_args_read_call_read_term)]
 pub fn read_term<'a>(
     names: &[Name],
     terms: &mut [Term],
@@ -29,89 +31,101 @@ pub fn read_term<'a>(
     requires few { length names.now ≤ 512 }
     requires ready { Ready names.now terms.old count.old }
     requires begins { Begins (seen first ∷ left after) }
-    ensures reads { ReadsTree (map name_of names.now) (room 4096 terms.old) wants (seen first.entry ∷ left after.entry) (terms_of terms.old count.old) (told result) (terms_of terms.new count.new) }
+    ensures reads { ReadsTree names.now (room 4096 terms.old) wants (seen first.entry ∷ left after.entry) (take count.old terms.old) (told result) (take count.new terms.new) }
     ensures within { IfOk result (λ p. p.0 < count.new) }
     ensures ready { Ready names.now terms.new count.new }
     ensures grown { Grown terms.old count.old terms.new count.new }
 {
-    match first {
-        Token::Symbol { at, text } => {
-            let Some(head) = head_named(names, text) else {
-                return Err(TermFault::Unknown { at });
-            };
-            let number = place_term(names, terms, count, wants, at, head, &[])?;
-            Ok((number, after))
+    let mut list = TermList {
+        names,
+        terms,
+        count,
+    };
+    list.term(wants, first, after)
+}
+
+impl TermList<'_> {
+    /// Reads the term that begins with `first`: its number, and the reader after it. With `wants`
+    /// it has to be `Bool`.
+    #[cycle(arguments_call_term)]
+    fn term<'a>(
+        &mut self,
+        wants: bool,
+        first: Token<'a>,
+        after: Reader<'a>,
+    ) -> Result<(u16, Reader<'a>), TermFault>
+        requires { Begins (seen first ∷ left after) }
+        ensures reads { ReadsTree self.old.names.now (most self.old) wants (seen first.entry ∷ left after.entry) (listed self.old) (told result) (listed self.new) }
+        ensures within { IfOk result (λ p. p.0 < self.new.count.now) }
+        ensures onward { Onward self.old self.new }
+    {
+        match first {
+            Token::Symbol { at, text } => {
+                let head = self.head_named(text).ok_or(TermFault::Unknown { at })?;
+                let number = self.place(wants, at, head, &[])?;
+                Ok((number, after))
+            }
+            Token::Numeral { at, value } => {
+                let number = self.place(wants, at, Head::Numeral(value), &[])?;
+                Ok((number, after))
+            }
+            Token::Open { at } => self.call(wants, at, after),
+            _ => unreachable!(),
         }
-        Token::Numeral { at, value } => {
-            let number = place_term(names, terms, count, wants, at, Head::Numeral(value), &[])?;
-            Ok((number, after))
-        }
-        Token::Open { at } => read_call(names, terms, count, wants, at, after),
-        _ => unreachable(),
     }
-}
 
-/// Reads the term in brackets whose bracket stands at `at`.
-#[cycle(read_args_read_call_read_term)]
-fn read_call<'a>(
-    names: &[Name],
-    terms: &mut [Term],
-    count: &mut usize,
-    wants: bool,
-    at: usize,
-    after: Reader<'a>,
-) -> Result<(u16, Reader<'a>), TermFault>
-    requires few { length names.now ≤ 512 }
-    requires ready { Ready names.now terms.old count.old }
-    requires begins { Begins (opens at ∷ left after) }
-    ensures reads { ReadsTree (map name_of names.now) (room 4096 terms.old) wants (opens at ∷ left after.entry) (terms_of terms.old count.old) (told result) (terms_of terms.new count.new) }
-    ensures within { IfOk result (λ p. p.0 < count.new) }
-    ensures ready { Ready names.now terms.new count.new }
-    ensures grown { Grown terms.old count.old terms.new count.new }
-{
-    let Some((word, inner)) = symbol(after) else {
-        unreachable()
-    };
-    let mut args = [0; 64];
-    let (len, rest) = read_args(names, terms, count, &mut args, inner)?;
-    let Some(head) = head_named(names, word.text) else {
-        return Err(TermFault::Unknown { at: word.at });
-    };
-    let number = place_term(names, terms, count, wants, at, head, &args[0..len])?;
-    Ok((number, rest))
-}
-
-/// Reads arguments up to and with the closing bracket, and writes their numbers: how many, and the
-/// reader after them.
-#[cycle(read_args_read_call_read_term)]
-fn read_args<'a>(
-    names: &[Name],
-    terms: &mut [Term],
-    count: &mut usize,
-    args: &mut [u16],
-    reader: Reader<'a>,
-) -> Result<(usize, Reader<'a>), TermFault>
-    requires few { length names.now ≤ 512 }
-    requires ready { Ready names.now terms.old count.old }
-    requires begins { BeginsAll (left reader) }
-    requires long { length args.old ≡ 64 }
-    ensures reads { ReadsTrees (map name_of names.now) (room 4096 terms.old) (left reader.entry) (terms_of terms.old count.old) (told_all result args.new) (terms_of terms.new count.new) }
-    ensures within { IfOk result (λ p. (p.0 ≤ 64) × AllByRecursion (λ n. n < count.new) (take p.0 args.new)) }
-    ensures ready { Ready names.now terms.new count.new }
-    ensures grown { Grown terms.old count.old terms.new count.new }
-{
-    let mut rest = reader;
-    let mut len = 0;
-    loop {
-        let Some((first, after)) = next(rest) else {
-            unreachable()
+    /// Reads the term in brackets whose bracket stands at `at`.
+    #[cycle(arguments_call_term)]
+    fn call<'a>(
+        &mut self,
+        wants: bool,
+        at: usize,
+        after: Reader<'a>,
+    ) -> Result<(u16, Reader<'a>), TermFault>
+        requires { Begins (opens at ∷ left after) }
+        ensures reads { ReadsTree self.old.names.now (most self.old) wants (opens at ∷ left after.entry) (listed self.old) (told result) (listed self.new) }
+        ensures within { IfOk result (λ p. p.0 < self.new.count.now) }
+        ensures onward { Onward self.old self.new }
+    {
+        let Some((word, inner)) = symbol(after) else {
+            unreachable!()
         };
-        if let Token::Close { .. } = first {
-            return Ok((len, after));
+        // A `match`, since `?` has no proof where a short list stands beside a reader.
+        let (args, rest) = match self.arguments(inner) {
+            Ok(read) => read,
+            Err(fault) => return Err(fault),
+        };
+        let head = self
+            .head_named(word.text)
+            .ok_or(TermFault::Unknown { at: word.at })?;
+        let number = self.place(wants, at, head, args.as_slice())?;
+        Ok((number, rest))
+    }
+
+    /// Reads arguments up to and with the closing bracket: their numbers, and the reader after them.
+    #[cycle(arguments_call_term)]
+    fn arguments<'a>(
+        &mut self,
+        reader: Reader<'a>,
+    ) -> Result<(Few<u16, MOST_ARGUMENTS>, Reader<'a>), TermFault>
+        requires { BeginsAll (left reader) }
+        ensures reads { ReadsTrees self.old.names.now (most self.old) (left reader.entry) (listed self.old) (told_all result) (listed self.new) }
+        ensures few { IfOk result (λ p. length p.0 ≤ 64) }
+        ensures within { IfOk result (λ p. AllByRecursion (λ n. n < self.new.count.now) p.0) }
+        ensures onward { Onward self.old self.new }
+    {
+        let mut rest = reader;
+        let mut args = Few::empty();
+        loop {
+            let Some((first, after)) = next(rest) else {
+                unreachable!()
+            };
+            if let Token::Close { .. } = first {
+                return Ok((args, after));
+            }
+            let (number, behind) = self.term(false, first, after)?;
+            args.push(number);
+            rest = behind;
         }
-        let (number, behind) = read_term(names, terms, count, false, first, after)?;
-        args[len] = number;
-        len += 1;
-        rest = behind;
     }
 }

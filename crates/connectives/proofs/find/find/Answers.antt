@@ -1,19 +1,17 @@
-use Rattle.std.proofs.Common.{sym, ap}
-use Rattle.connectives.specs.Table.{rule_named, named}
-use Rattle.connectives.proofs.Rows.{rule_found, rule_next, rule_none}
+use Rattle.std.proofs.Common.{rules, tests, ap, ◌∙◌}
+use Rattle.std.specs.Str.{bytes_eq}
+use Rattle.std.specs.Option.{option_map}
+use Rattle.std.proofs.lemmas.Iterator.{YieldsList-from_slice}
+use Rattle.std.proofs.lemmas.Iterator.Search.{find_from_yields_List}
+use Rattle.connectives.specs.declared.table.Rule.{Rule}
+use Rattle.connectives.specs.Table.{named}
+use Rattle.connectives.specs.Search.{seen}
+use Rattle.connectives.proofs.Rows.{found_seen}
 use Rattle.connectives.proofs.find.find.Goals as goal
-
-pub loop-rule-init : goal.loop-rule-init
-loop-rule-init c = ap (λ z. named z c.args.name.now) (sym c.rules-all.ensures)
-
-pub returns-then-same_name : goal.returns-then-same_name
-returns-then-same_name c =
-    rule_found (rule_named c.args.name.now) c.args.name.now c.rules-all.result.now c.loop-rule.rule-index c.loop-rule.invariant _ c.loop-rule-test.true c.if-same_name.ensures
-
-pub loop-rule-preserved : goal.loop-rule-preserved
-loop-rule-preserved c =
-    rule_next (rule_named c.args.name.now) c.args.name.now c.rules-all.result.now c.loop-rule.rule-index c.loop-rule.invariant _ c.loop-rule-test.true c.if-same_name.ensures
 
 pub returns : goal.returns
 returns c =
-    rule_none (rule_named c.args.name.now) c.args.name.now c.rules-all.result.now c.loop-rule.rule-index c.loop-rule.invariant c.loop-rule-test.false
+    let all = c.rules.result.now in
+    let has = λ (r : Rule). bytes_eq c.args.name.now r.name.now in
+    let found = find_from_yields_List has _ _ _ c.find.ensures.ran (YieldsList-from_slice all cc) (λ x b q k. search (rules, tests)) in
+    ap (option_map seen) (c.copied.ensures ∙ found) ∙ found_seen c.args.name.now all ∙ ap (λ rs. named rs c.args.name.now) c.rules.ensures

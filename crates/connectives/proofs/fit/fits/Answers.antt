@@ -1,19 +1,20 @@
+use Rattle.std.proofs.Common.{◌≡◌, ◌-◌, refl, sym, ap, ◌∙◌, arith, rules, tests}
+use Rattle.std.proofs.lemmas.Iterator.{YieldsList-from_range}
+use Rattle.std.proofs.lemmas.Iterator.Search.{any_from_yields_List}
 use Rattle.referee.specs.Questions.{asked}
-use Rattle.connectives.specs.Rules.{meets_at}
+use Rattle.connectives.specs.Choice.{Chosen, args_of}
+use Rattle.connectives.specs.Rules.{connects, choices, meets_at}
 use Rattle.connectives.specs.Search.{seen}
-use Rattle.connectives.specs.Counts.{below_next}
-use Rattle.connectives.proofs.Turns.{fits_found, fits_none}
+use Rattle.connectives.proofs.Turns.{fits_is}
 use Rattle.connectives.proofs.fit.fits.Goals as goal
 
-pub returns-then-meets_at : goal.returns-then-meets_at
-returns-then-meets_at c =
-    fits_found (asked c.args.question) (seen c.args.rule) c.args.t c.choices-count.result c.args_of.result.now c.if-not-connects.ensures c.args_of.ensures c.choices-count.ensures
-    c.loop-i.i c.loop-i-test.true c.if-meets_at.ensures
-
-pub loop-i-preserved : goal.loop-i-preserved
-loop-i-preserved c = below_next (meets_at (asked c.args.question) (seen c.args.rule) c.args.t) c.loop-i.i c.loop-i.invariant c.if-meets_at.ensures
-
-pub returns : goal.returns
-returns c =
-    fits_none (asked c.args.question) (seen c.args.rule) c.args.t c.choices-count.result c.args_of.result.now c.if-not-connects.ensures c.args_of.ensures c.choices-count.ensures
-    c.loop-i.i c.loop-i.auto.i-end c.loop-i-test.false c.loop-i.invariant
+pub returns-then-connects : goal.returns-then-connects
+returns-then-connects c =
+    let q = asked c.args.question in
+    let r = seen c.args.rule in
+    let n = c.choices-count.result in
+    let all : n - 0 ≡ n = omega arith in
+    any_from_yields_List (meets_at q r c.args.t) _ _ c.any.result c.any.ensures.ran (YieldsList-from_range 0 n n refl all) (λ x b q k. search (rules, tests))
+    ∙ sym (fits_is q r c.args.t n
+    (c.if-connects.ensures ∙ ap (λ (z : Chosen). connects c.args.rule.connective z.terms z.term) c.new-first.ensures)
+    (c.choices-count.ensures ∙ ap (λ (z : Chosen). choices c.args.rule.clause.now (args_of z)) c.new-first.ensures))

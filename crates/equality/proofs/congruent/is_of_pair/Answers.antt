@@ -1,19 +1,11 @@
-use Rattle.entries.specs.Views.{views_of}
+use Rattle.std.proofs.Common.{◌∙◌, sym, ap}
+use Rattle.std.specs.List.{list_any}
+use Rattle.std.proofs.lemmas.Slice.Zip.{either_empty_from_Zip}
 use Rattle.equality.specs.Rules.{negates}
-use Rattle.equality.proofs.PairScans.{pairs_found, pairs_none_yet, pairs_none}
+use Rattle.equality.proofs.Pairs.{no_pairs}
 use Rattle.equality.proofs.congruent.is_of_pair.Goals as goal
-
-pub returns-then-is_negated : goal.returns-then-is_negated
-returns-then-is_negated c =
-    pairs_found (λ p. negates (views_of c.args.terms.now) p c.args.literal) c.args.left.now c.args.right.now c.requires c.loop-i.i
-    c.loop-i-test.true c.loop-i.invariant c.if-is_negated.ensures
-
-pub loop-i-preserved : goal.loop-i-preserved
-loop-i-preserved c =
-    pairs_none_yet (λ p. negates (views_of c.args.terms.now) p c.args.literal) c.args.left.now c.args.right.now c.requires c.loop-i.i
-    c.loop-i-test.true c.loop-i.invariant c.if-is_negated.ensures
 
 pub returns : goal.returns
 returns c =
-    pairs_none (λ p. negates (views_of c.args.terms.now) p c.args.literal) c.args.left.now c.args.right.now c.requires c.loop-i.i
-    c.loop-i-test.false c.loop-i.invariant
+    let none = no_pairs c.loop-s.s-iterator.a.rest.now c.loop-s.s-iterator.b.rest.now (either_empty_from_Zip c.loop-s.s-iterator c.next.new.self c.next.result c.in-None.is c.next.ensures.steps) in
+    sym (c.loop-s.invariant.2 ∙ ap (list_any (λ p. negates c.args.terms.now p c.args.literal)) none)

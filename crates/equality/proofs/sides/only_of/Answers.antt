@@ -1,23 +1,15 @@
-use Rattle.std.proofs.Common.{true, false, get_or, arith}
+use Rattle.std.proofs.Common.{◌≡◌, true, ◌∙◌, sym, ap, rules, tests}
+use Rattle.std.specs.Option.{option_copied}
+use Rattle.std.specs.List.{list_all}
+use Rattle.std.proofs.lemmas.Iterator.{YieldsList-from_slice}
+use Rattle.std.proofs.lemmas.Iterator.Search.{all_from_yields_List}
 use Rattle.entries.specs.Equality.{same_literal}
-use Rattle.meaning.specs.Truth.{positive}
-use Rattle.referee.proofs.Scans.{every_broken, every_next, every_done}
-use Rattle.equality.proofs.Onlys.{only_by_first}
+use Rattle.equality.proofs.Firsts.{only_first}
 use Rattle.equality.proofs.sides.only_of.Goals as goal
 
-pub returns-then-not-same_literal : goal.returns-then-not-same_literal
-returns-then-not-same_literal c =
-    let first = get_or c.args.clause.now 0 (positive 0) in
-    only_by_first c.args.clause.now (positive 0) (omega arith) false
-    (every_broken (same_literal first) c.args.clause.now c.loop-l.l-index (positive 0) c.loop-l-test.true c.loop-l.invariant c.if-not-same_literal.ensures)
-
-pub loop-l-preserved : goal.loop-l-preserved
-loop-l-preserved c =
-    let first = get_or c.args.clause.now 0 (positive 0) in
-    every_next (same_literal first) c.args.clause.now c.loop-l.l-index (positive 0) c.loop-l-test.true c.loop-l.invariant c.if-not-same_literal.ensures
-
-pub returns : goal.returns
-returns c =
-    let first = get_or c.args.clause.now 0 (positive 0) in
-    only_by_first c.args.clause.now (positive 0) (omega arith) true
-    (every_done (same_literal first) c.args.clause.now c.loop-l.l-index c.loop-l-test.false c.loop-l.invariant)
+pub returns-then-all : goal.returns-then-all
+returns-then-all c =
+    let first = c.in_ok-first.first.now in
+    let a = all_from_yields_List (same_literal first) _ _ c.all.result c.all.ensures.ran (YieldsList-from_slice c.args.clause.now (cc)) (λ x b q k. search (rules, tests)) in
+    let t : list_all (same_literal first) c.args.clause.now ≡ true = sym a ∙ c.if-all.true in
+    only_first c.args.clause.now first (sym c.first.ensures.value ∙ ap option_copied c.in_ok-first.was) t

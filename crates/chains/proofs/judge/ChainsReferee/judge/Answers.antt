@@ -3,10 +3,10 @@ use Rattle.referee.specs.Questions.{asked}
 use Rattle.chains.proofs.Rulings.{clause_placed, premises_placed, ruled_by_lem}
 use Rattle.chains.proofs.judge.ChainsReferee.judge.Goals as goal
 
-pub follows-requires : goal.follows-requires
-follows-requires c =
+pub invariant_of-chain : goal.invariant_of-chain
+invariant_of-chain c =
     let q = asked c.args.question in
-    record { clause = clause_placed q c.requires; premises = premises_placed q c.requires }
+    record { clause_placed = clause_placed q c.requires; premises_placed = premises_placed q c.requires }
 
 pub returns-then-follows : goal.returns-then-follows
 returns-then-follows c =
