@@ -1,5 +1,5 @@
 //! Literals and clauses.
-ghost use Rattle.std.specs.Prelude.{◌≡◌, ◌<◌, [], length};
+ghost use Rattle.std.specs.Prelude.{◌≡◌, ◌<◌, ◌≤◌, [], length};
 ghost use Rattle.entries.specs.Clauses.{complement_of, with as with_one};
 
 use crate::entry::Literal;
@@ -48,7 +48,8 @@ impl Clause {
 
     /// The literals.
     pub fn literals(&self) -> &[Literal]
-        ensures { result.now ≡ self.now }
+        ensures literals { result.now ≡ self.now }
+        ensures few { length self.now ≤ 64 }
     {
         self.literals.as_slice()
     }
@@ -58,7 +59,11 @@ impl Clause {
         requires { length self.old < 64 }
         ensures { self.new ≡ with_one self.old literal }
     {
-        if !self.literals().contains(&literal) {
+        // No `contains`, which compares in groups and goes on behind a hit; and numbers first, which
+        // tell most literals apart.
+        let there = self.literals().iter().any(|l| l.term == literal.term
+            && l.negative == literal.negative);
+        if !there {
             self.literals.push(literal);
         }
     }

@@ -1,5 +1,5 @@
 //! Short lists that lie in the value itself.
-ghost use Rattle.std.specs.Prelude.{◌≡◌, ◌<◌, ◌∷◌, ◌++◌, [], length, take, ⊤};
+ghost use Rattle.std.specs.Prelude.{◌≡◌, ◌<◌, ◌≤◌, ◌∷◌, ◌++◌, [], length, take, ⊤};
 ghost use Rattle.std.specs.Cmp.Lexicographic.{pointwise, lists_per, lists_equiv};
 
 use crate::blank::Blank;
@@ -72,17 +72,18 @@ impl<T: Blank, const N: usize> Few<T, N> {
     pub fn new(items: &[T]) -> Few<T, N>
         ensures { result ≡ take N items.now }
     {
-        let front = &items[..items.len().min(N)];
-        let mut few = Few::empty();
-        for item in front {
-            few.push(*item);
-        }
-        few
+        let len = items.len().min(N);
+        let mut places = [T::blank(); N];
+        // At once and not item by item, since each look-up of a word makes one.
+        let front = &mut places[..len];
+        front.copy_from_slice(&items[..len]);
+        Few { items: places, len }
     }
 
     /// The items.
     pub fn as_slice(&self) -> &[T]
-        ensures { result.now ≡ self.now }
+        ensures items { result.now ≡ self.now }
+        ensures few { length self.now ≤ N }
     {
         let places = &self.items[..];
         &places[..self.len]

@@ -1,5 +1,5 @@
 //! How entries are made, and how what they hold is read.
-ghost use Rattle.std.specs.Prelude.{◌≡◌, take};
+ghost use Rattle.std.specs.Prelude.{◌≡◌, ◌≤◌, length, take};
 
 use crate::entry::{Head, Name, Sort, Symbol, Term};
 use crate::few::Few;
@@ -18,7 +18,8 @@ impl Name {
 
     /// The sorts that the name takes.
     pub fn takes(&self) -> &[Sort]
-        ensures { result.now ≡ self.now.takes }
+        ensures sorts { result.now ≡ self.now.takes }
+        ensures few { length self.now.takes ≤ 64 }
     {
         self.takes.as_slice()
     }
@@ -38,7 +39,8 @@ impl Term {
 
     /// The arguments, by their numbers.
     pub fn args(&self) -> &[u16]
-        ensures { result.now ≡ self.now.args }
+        ensures numbers { result.now ≡ self.now.args }
+        ensures few { length self.now.args ≤ 64 }
     {
         self.args.as_slice()
     }

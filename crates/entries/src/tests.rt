@@ -1,5 +1,5 @@
 //! Small lists at their limits.
-use crate::{Clause, Head, Literal, Sort, Symbol, Term, intern, position};
+use crate::{Clause, Head, Literal, Name, Sort, Symbol, Term, intern, position};
 
 #[test]
 fn the_first_equal_word_is_found(rt: HostRuntime) {
@@ -44,4 +44,32 @@ fn a_repeat_is_dropped(rt: HostRuntime) {
     clause.push(p.complement());
     clause.push(p);
     assert_eq!(rt; clause.literals().len(), 2);
+}
+
+// That a byte holds each of these numbers has to be proved here, as by any caller.
+
+fn arity(term: &Term) -> u8 {
+    term.args().len() as u8
+}
+
+fn sorts_taken(name: &Name) -> u8 {
+    name.takes().len() as u8
+}
+
+fn size(clause: &Clause) -> u8 {
+    clause.literals().len() as u8
+}
+
+#[test]
+fn lists_are_known_to_be_short(rt: HostRuntime) {
+    let term = Term::new(Head::And, Sort::Bool, &[0; 65]);
+    let name = Name::new(Symbol::new(b"f"), &[Sort::Int; 65], Sort::Bool);
+    let mut clause = Clause::new();
+    clause.push(Literal {
+        negative: false,
+        term: 7,
+    });
+    assert_eq!(rt; arity(&term), 64);
+    assert_eq!(rt; sorts_taken(&name), 64);
+    assert_eq!(rt; size(&clause), 1);
 }

@@ -9,19 +9,19 @@ pub bounds-args-0 : goal.bounds-args-0
 bounds-args-0 c =
     strip_some c.args.self.now c.at.ensures.formed c.args.n c.loop-at.at c.loop-at.negative c.loop-at.invariant.0 c.loop-at.invariant.1
     (sym (c.loop-at-test.ensures ∙ ap (λ (t : Term). same_kind t.head head.Not) c.at.ensures.term))
-    c.args-in-loop-at.result.now (c.args-in-loop-at.ensures ∙ ap (λ (t : Term). t.args) c.at-in-loop-at.ensures.term)
+    c.args-in-loop-at.result.now (c.args-in-loop-at.ensures.numbers ∙ ap (λ (t : Term). t.args) c.at-in-loop-at.ensures.term)
 
 pub loop-at-smaller : goal.loop-at-smaller
 loop-at-smaller c =
     strip_less c.args.self.now c.at.ensures.formed c.args.n c.loop-at.at c.loop-at.negative c.loop-at.invariant.0 c.loop-at.invariant.1
     (sym (c.loop-at-test.ensures ∙ ap (λ (t : Term). same_kind t.head head.Not) c.at.ensures.term))
-    c.args-in-loop-at.result.now (c.args-in-loop-at.ensures ∙ ap (λ (t : Term). t.args) c.at-in-loop-at.ensures.term)
+    c.args-in-loop-at.result.now (c.args-in-loop-at.ensures.numbers ∙ ap (λ (t : Term). t.args) c.at-in-loop-at.ensures.term)
 
 pub loop-at-preserved : goal.loop-at-preserved
 loop-at-preserved c =
     strip_again c.args.self.now c.at.ensures.formed c.args.n c.loop-at.at c.loop-at.negative c.loop-at.invariant.0 c.loop-at.invariant.1
     (sym (c.loop-at-test.ensures ∙ ap (λ (t : Term). same_kind t.head head.Not) c.at.ensures.term))
-    c.args-in-loop-at.result.now (c.args-in-loop-at.ensures ∙ ap (λ (t : Term). t.args) c.at-in-loop-at.ensures.term)
+    c.args-in-loop-at.result.now (c.args-in-loop-at.ensures.numbers ∙ ap (λ (t : Term). t.args) c.at-in-loop-at.ensures.term)
 
 pub returns : goal.returns
 returns c =

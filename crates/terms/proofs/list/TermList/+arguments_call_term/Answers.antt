@@ -70,7 +70,7 @@ call-returns-in_err-number-clause-reads t c =
     let p = err_from_is_err_and c.from_residual-in_err-number.result c.from_residual-in_err-number.ensures.1 in
     refused_reads c.args.self.now.names.now (most c.args.self.now) c.args.wants _ _ _ c.from_residual-in_err-number.result p.0 c.in_err-number.field-0.0 p.1 p.2
     (call_placed c.args.self.now c.arguments.new.self c.in-Ok.ensures.onward c.args.wants c.args.at (left c.args.after) c.requires c.in-Some.word.at c.in-Some.word.text.now (left c.in-Some.inner) c.in-Some.ensures c.in-Ok.read.0 (left c.in-Ok.read.1) c.in-Ok.ensures.reads c.head_named.result c.head_named.ensures
-    c.in_ok-head.head c.in_ok-head.ensures.value c.as_slice.result.now c.as_slice.ensures (Err c.in_err-number.field-0.0) (listed c.place.new.self) c.in_err-number.ensures.does)
+    c.in_ok-head.head c.in_ok-head.ensures.value c.as_slice.result.now c.as_slice.ensures.items (Err c.in_err-number.field-0.0) (listed c.place.new.self) c.in_err-number.ensures.does)
 
 pub call-returns-in_err-number-clause-onward : goal.call-returns-in_err-number-clause-onward
 call-returns-in_err-number-clause-onward t c = onward_on _ _ _ c.in-Ok.ensures.onward c.in_err-number.ensures.onward
@@ -78,7 +78,7 @@ call-returns-in_err-number-clause-onward t c = onward_on _ _ _ c.in-Ok.ensures.o
 pub call-returns-clause-reads : goal.call-returns-clause-reads
 call-returns-clause-reads t c =
     call_placed c.args.self.now c.arguments.new.self c.in-Ok.ensures.onward c.args.wants c.args.at (left c.args.after) c.requires c.in-Some.word.at c.in-Some.word.text.now (left c.in-Some.inner) c.in-Some.ensures c.in-Ok.read.0 (left c.in-Ok.read.1) c.in-Ok.ensures.reads c.head_named.result c.head_named.ensures
-    c.in_ok-head.head c.in_ok-head.ensures.value c.as_slice.result.now c.as_slice.ensures (Ok c.in_ok-number.number) (listed c.place.new.self) c.in_ok-number.ensures.does
+    c.in_ok-head.head c.in_ok-head.ensures.value c.as_slice.result.now c.as_slice.ensures.items (Ok c.in_ok-number.number) (listed c.place.new.self) c.in_ok-number.ensures.does
 
 pub call-returns-clause-onward : goal.call-returns-clause-onward
 call-returns-clause-onward t c = onward_on _ _ _ c.in-Ok.ensures.onward c.in_ok-number.ensures.onward
