@@ -18,20 +18,21 @@ pub struct Known<'a> {
     ghost few_names: { length names.now ≤ 512 },
 }
 
-impl Known<'_> {
-    /// The first declared sort with the word `word`, if any.
-    fn declared_sort(&self, word: &[u8]) -> Option<Sort>
-        ensures { result ≡ declared_sort self.now.sorts.now word.now }
-    {
-        let place = position(self.sorts, self.sorts.len(), &Symbol::new(word))?;
-        Some(Sort::Declared(place as u8))
-    }
+/// The first of `sorts` with the word `word`, if any.
+fn declared_sort(sorts: &[Symbol], word: &[u8]) -> Option<Sort>
+    requires { length sorts.now ≤ 32 }
+    ensures { result ≡ declared_sort sorts.now word.now }
+{
+    let place = position(sorts, sorts.len(), &Symbol::new(word))?;
+    Some(Sort::Declared(place as u8))
+}
 
+impl Known<'_> {
     /// The sort that `word` is, if any: `Bool`, `Int`, or the first declared one with that word.
     pub fn sort_named(&self, word: &[u8]) -> Option<Sort>
         ensures { result ≡ sort_named self.now.sorts.now word.now }
     {
-        built_in(word).or(self.declared_sort(word))
+        built_in(word).or_else(|| declared_sort(self.sorts, word))
     }
 
     /// The number of the name that `word` is, if any: the first declared one with that word.
