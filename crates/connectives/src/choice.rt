@@ -144,8 +144,11 @@ impl<'a> Choice<'a> {
     pub(crate) fn connects(&self, connective: Connective) -> bool
         ensures { result ≡ connects_by connective self.now.terms self.now.term }
     {
-        begins(connective, self.terms.at(self.term).head)
-            && (!matches!(connective, Connective::Equiv) || self.all_bool())
+        let head = self.terms.at(self.term).head;
+        match connective {
+            Connective::Equiv => matches!(head, Head::Equal) && self.all_bool(),
+            _ => begins(connective, head),
+        }
     }
 
     /// Whether all arguments of T are Bool.

@@ -27,8 +27,8 @@ fn fits(question: Question<'_>, rule: Rule, t: u16) -> bool
     ensures { result ≡ fits_as (asked question.entry) (seen rule) t }
 {
     let first = Choice::new(question.terms, t, 0);
-    let count = first.choices(rule.clause);
-    first.connects(rule.connective) && (0..count).any(|i| meets_at(question, rule, t, i))
+    first.connects(rule.connective)
+        && (0..first.choices(rule.clause)).any(|i| meets_at(question, rule, t, i))
 }
 
 /// Where T is looked for: in the first premise, or in the clause where there is none.

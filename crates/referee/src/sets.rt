@@ -8,5 +8,7 @@ use entries::Literal;
 pub fn has(clause: &[Literal], literal: Literal) -> bool
     ensures { result ≡ holds_literal clause.now literal }
 {
-    clause.contains(&literal)
+    // No `contains`, which compares in groups and goes on behind a hit; and numbers first, which tell
+    // most literals apart.
+    clause.iter().any(|l| l.term == literal.term && l.negative == literal.negative)
 }

@@ -12,9 +12,9 @@ pub returns-then-connects : goal.returns-then-connects
 returns-then-connects c =
     let q = asked c.args.question in
     let r = seen c.args.rule in
-    let n = c.choices-count.result in
+    let n = c.choices.result in
     let all : n - 0 ≡ n = omega arith in
     any_from_yields_List (meets_at q r c.args.t) _ _ c.any.result c.any.ensures.ran (YieldsList-from_range 0 n n refl all) (λ x b q k. search (rules, tests))
     ∙ sym (fits_is q r c.args.t n
     (c.if-connects.ensures ∙ ap (λ (z : Chosen). connects c.args.rule.connective z.terms z.term) c.new-first.ensures)
-    (c.choices-count.ensures ∙ ap (λ (z : Chosen). choices c.args.rule.clause.now (args_of z)) c.new-first.ensures))
+    (c.choices.ensures ∙ ap (λ (z : Chosen). choices c.args.rule.clause.now (args_of z)) c.new-first.ensures))
