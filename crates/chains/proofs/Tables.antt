@@ -1,9 +1,10 @@
 -- A set of literals as a list of answers: reads, writes, and how a search goes on with it.
-use Rattle.std.proofs.Common.{◌≡◌, ℕ, zero, suc, ◌+◌, ◌-◌, ◌<◌, Bool, true, false, not, ◌||◌, ◌⊎◌, List, [], ◌∷◌, ◌++◌, length, get_or, take, drop, set, replicate, reverse, Some, None, sym, refl, ap, ◌∙◌, subst, inl, inr, suc-le-suc, arith}
-use Rattle.std.specs.List.{ContainsAt as Has, AllByRecursion, find, list_all}
-use Rattle.std.proofs.ByRecursion.{all-has, All-get_or, has_get_or, has_append_left, has_push, has_push_cases}
-use Rattle.std.proofs.lemmas.List.{take-append-drop, take_all, get_or-set_same, get_or-set_other, take_more, get_or-reverse, reverse-reverse, length-reverse}
-use Rattle.std.proofs.lemmas.Bool.{cases_eq, cases_Bool, both_ways, or_cases, or_parts, cond-true, cond-false, not-true, not-false, false≢true, true≢false}
+use Rattle.std.proofs.Common.{◌≡◌, ℕ, zero, suc, ◌+◌, ◌-◌, ◌<◌, Bool, true, false, ◌||◌, ◌⊎◌, List, [], ◌∷◌, ◌++◌, length, get_or, take, drop, set, replicate, reverse, sym, refl, ap, ◌∙◌, subst, inl, inr, suc-le-suc, add-one, arith}
+use Rattle.std.specs.List.{ContainsAt as Has, AllByRecursion, AllWithin, HoldsAt, list_all}
+use Rattle.std.proofs.ByRecursion.{all-has, All-get_or, has_get_or, has_append_left, has_append_right, has_push, has_push_cases}
+use Rattle.std.proofs.Math.Seq.{drop-cons}
+use Rattle.std.proofs.lemmas.List.{take-append-drop, take_all, length-take, length-drop, get_or-take, get_or-set_same, get_or-set_other, take_more, get_or-reverse, reverse-reverse, length-reverse}
+use Rattle.std.proofs.lemmas.Bool.{cases_eq, both_ways, or_cases, or_parts, false≢true, true≢false}
 use Rattle.entries.specs.declared.entry.Literal.{Literal}
 use Rattle.entries.specs.Clauses.{complement_of}
 use Rattle.entries.specs.Equality.{same_literal}
@@ -12,7 +13,7 @@ use Rattle.meaning.specs.Truth.{positive}
 use Rattle.chains.specs.Chain.{Derived, Refutes}
 use Rattle.chains.specs.Chain.Derived.{denied, forced}
 use Rattle.chains.specs.Sets.{place_at, place_of, Placed, holds, Holds, Clash, AllOut, ButOne, ButTwo, Sound, Consistent, missing, ClosedAt, Onward, Seeds}
-use Rattle.referee.proofs.Members.{has_first, has_on, has_cases, every_has}
+use Rattle.referee.proofs.Members.{has_first, has_cases, every_has, has_append_cases}
 use Rattle.referee.proofs.Scans.{every_not}
 use Rattle.chains.specs.Members.{complement_twice, complement_own, complement_turn, same_or_not}
 
@@ -129,64 +130,69 @@ pub clash_at : (clause xs : List Literal) (s : List Bool) (x : Literal) → ((l 
 clash_at clause xs s x within w h y = (x, h, within (complement_of x) (w.only x y))
 
 -- ---- a premise
-find_none : {X : Type 0} (f : X → Bool) (xs : List X) → find f xs ≡ None → (x : X) → Has xs x → f x ≡ false
-find_none f [] e x h = absurd (omega (arith, h.1))
-find_none f (y ∷ xs) e x h = elim (cases_Bool (f y)) [
-  | inl t ↦ absurd (cc (cond-true (f y) (Some y) (find f xs) t, e))
-  | inr n ↦ elim (has_cases y xs x h) [
-    | inl q ↦ ap f (sym q) ∙ n
-    | inr k ↦ find_none f xs (sym (cond-false (f y) (Some y) (find f xs) n) ∙ e) x k
-  ]
-]
+not_nil : {X : Type 0} (x : X) (xs : List X) → Has xs x → xs ≡ [] → ⊥
+not_nil {X} x xs h e = omega (arith, h.1, ap (length {A = X}) e)
 
-find_some : {X : Type 0} (f : X → Bool) (xs : List X) (x : X) → find f xs ≡ Some x → Has xs x × (f x ≡ true)
-find_some f [] x e = absurd (cc)
-find_some {X} f (y ∷ xs) x e = elim (cases_Bool (f y)) [
-  | inl t ↦
-      let q : y ≡ x = cc (cond-true (f y) (Some y) (find f xs) t, e) in
-      (subst (Has (y ∷ xs)) q (has_first y xs), ap f (sym q) ∙ t)
-  | inr n ↦ let w = find_some f xs x (sym (cond-false (f y) (Some y) (find f xs) n) ∙ e) in (has_on y xs x w.0, w.1)
-]
+-- the literals from a place on
+pub from_place : (p : List Literal) (n : ℕ) → take (length p - n) (drop n p) ≡ drop n p
+from_place p n = take_all (length p - n) (drop n p) (omega (arith, length-drop n p))
 
--- whether a literal's complement is not in the set
-abbrev pub is_left : List Bool → Literal → Bool
-is_left s l = not (holds s (complement_of l))
+-- a literal's complement is in the set, and it is not
+abbrev pub Out : List Bool → Literal → Type 0
+Out s l = Holds s (complement_of l)
 
--- whether a literal is u, or its complement is in the set
+abbrev pub Open : List Bool → Literal → Type 0
+Open s l = holds s (complement_of l) ≡ false
+
+-- whether a literal's complement is in the set, or the literal is u
 abbrev pub is_out : List Bool → Literal → Literal → Bool
-is_out s u l = same_literal l u || holds s (complement_of l)
+is_out s u l = holds s (complement_of l) || same_literal l u
 
 module _ (p : List Literal) (s : List Bool) where
-  pub left_none : find (is_left s) p ≡ None → AllOut p s
-  left_none e m h = not-false (holds s (complement_of m)) (find_none (is_left s) p e m h)
+  -- those before a place have their complement in the set
+  before_out : (at : ℕ) → AllWithin (Out s) p 0 at → (m : Literal) → Has (take at p) m → Out s m
+  before_out at h m (k, lt, f) =
+      let below : k < at = omega (arith, length-take at p) in
+      subst (Out s) (sym (get_or-take at p k m below) ∙ f m) (h k m (omega arith) below)
 
-  module _ (u : Literal) (e : find (is_left s) p ≡ Some u) where
-    free : Holds s (complement_of u) → ⊥
-    free y = lacks s (complement_of u) (not-true (holds s (complement_of u)) (find_some (is_left s) p u e).1) y
+  pub left_none : AllWithin (Out s) p 0 (length p) → AllOut p s
+  left_none h m (k, lt, f) = subst (Out s) (f m) (h k m (omega arith) lt)
 
-    pub left_one : list_all (is_out s u) p ≡ true → ButOne p s u
-    left_one t = record {
-      has = (find_some (is_left s) p u e).0;
-      free = free;
-      others = λ m h ne. elim (or_cases (same_literal m u) (holds s (complement_of m)) (every_has (is_out s u) p t m h)) [
-        | inl q ↦ absurd (ne ((same_literal_decides m u).0 q))
-        | inr y ↦ y
-      ];
-    }
+  module _ (at : ℕ) (h : at < length p) (o : HoldsAt (Open s) p at) where
+    free : Holds s (complement_of (read p at)) → ⊥
+    free y = lacks s (complement_of (read p at)) (o (positive 0)) y
 
-    pub left_two : list_all (is_out s u) p ≡ false → ButTwo p s
-    left_two t =
-        let w = every_not (is_out s u) p u t in
-        let b = get_or p w.0 u in
-        let n = or_parts (same_literal b u) (holds s (complement_of b)) w.2 in
+    pub left_one : AllWithin (Out s) p 0 at → list_all (is_out s (read p at)) (drop (at + 1) p) ≡ true → ButOne p s (read p at)
+    left_one before t =
+        let cut : p ≡ take at p ++ read p at ∷ drop (at + 1) p = sym (take-append-drop at p) ∙ ap (λ z. take at p ++ z) (rw (add-one) (drop-cons p at (positive 0) h)) in
         record {
-          a = u;
+          has = has_read p at h;
+          free = free;
+          others = λ m g ne. elim (has_append_cases (take at p) (read p at ∷ drop (at + 1) p) m (subst (λ z. Has z m) cut g)) [
+            | inl a ↦ before_out at before m a
+            | inr b ↦ elim (has_cases (read p at) (drop (at + 1) p) m b) [
+              | inl q ↦ absurd (ne (sym q))
+              | inr i ↦ elim (or_cases (holds s (complement_of m)) (same_literal m (read p at)) (every_has (is_out s (read p at)) (drop (at + 1) p) t m i)) [
+                | inl y ↦ y
+                | inr q ↦ absurd (ne ((same_literal_decides m (read p at)).0 q))
+              ]
+            ]
+          ];
+        }
+
+    pub left_two : list_all (is_out s (read p at)) (drop (at + 1) p) ≡ false → ButTwo p s
+    left_two t =
+        let w = every_not (is_out s (read p at)) (drop (at + 1) p) (read p at) t in
+        let b = get_or (drop (at + 1) p) w.0 (read p at) in
+        let n = or_parts (holds s (complement_of b)) (same_literal b (read p at)) w.2 in
+        record {
+          a = read p at;
           b = b;
-          has_a = (find_some (is_left s) p u e).0;
-          has_b = has_get_or p w.0 u w.1;
-          apart = λ q. both_ways (same_literal b u) n.0 ((same_literal_decides b u).1 (sym q));
+          has_a = has_read p at h;
+          has_b = subst (λ z. Has z b) (take-append-drop (at + 1) p) (has_append_right (take (at + 1) p) (drop (at + 1) p) b (has_get_or (drop (at + 1) p) w.0 (read p at) w.1));
+          apart = λ q. both_ways (same_literal b (read p at)) n.1 ((same_literal_decides b (read p at)).1 (sym q));
           free_a = free;
-          free_b = lacks s (complement_of b) n.1;
+          free_b = lacks s (complement_of b) n.0;
         }
 
 -- ---- a pass: it began at s and is at s', past `done`
@@ -201,9 +207,6 @@ walk_none ps s = record {
   grown = λ e. absurd (false≢true e);
   still = λ e p h. absurd (omega (arith, h.1));
 }
-
-not_nil : {X : Type 0} (x : X) (xs : List X) → Has xs x → xs ≡ [] → ⊥
-not_nil {X} x xs h e = omega (arith, h.1, ap (length {A = X}) e)
 
 closed_two : (p : List Literal) (s : List Bool) → ButTwo p s → ClosedAt s p
 closed_two p s f = record {

@@ -1,6 +1,6 @@
 //! The search for a literal and its complement: a set of literals that grows until no premise adds
 //! to it.
-ghost use Rattle.std.specs.Prelude.{Decides, MatchOption};
+ghost use Rattle.std.specs.Prelude.{◌≡◌, false, replicate, Decides, MatchOption};
 ghost use Rattle.std.specs.List.{AllByRecursion};
 ghost use Rattle.std.proofs.Props.{props};
 ghost use Rattle.chains.specs.Sets.{Placed, Left};
@@ -13,14 +13,15 @@ use entries::{Clause, Literal};
 fn look(premise: &[Literal], known: &Known) -> Rest
     ensures { Left premise.now known.now result }
 {
-    match premise.iter().find(|l| !known.has(l.complement())) {
+    match premise.iter().position(|l| !known.has(l.complement())) {
         None => Rest::Nothing,
-        Some(one) => {
-            if premise
+        Some(at) => {
+            let one = premise[at];
+            if premise[at + 1..]
                 .iter()
-                .all(|l| l == one || known.has(l.complement()))
+                .all(|l| known.has(l.complement()) || *l == one)
             {
-                Rest::One(*one)
+                Rest::One(one)
             } else {
                 Rest::More
             }
@@ -42,11 +43,12 @@ impl<'a> Chain<'a> {
     ghost use Rattle.std.proofs.Props.{props};
     ghost use Rattle.chains.specs.Sets.{Clash, Seeds, Passed};
 
-    /// The complements of the clause's literals, unless two of these are complements.
-    fn seed(&self) -> Option<Known>
-        ensures { MatchOption result (Clash self.now.clause.now) (Seeds self.now.clause.now) }
+    /// Puts the complements of the clause's literals into the empty set; none, where two of these
+    /// are complements.
+    fn seed(&self, known: &mut Known) -> Option<()>
+        requires { known.old ≡ replicate 8192 false }
+        ensures { MatchOption result (Clash self.now.clause.now) (λ _. Seeds self.now.clause.now known.new) }
     {
-        let mut known = Known::empty();
         // A loop, since each literal is looked up in what those before it gave.
         for literal in self.clause {
             if known.has(*literal) {
@@ -55,7 +57,7 @@ impl<'a> Chain<'a> {
             let denied = literal.complement();
             known.add(denied);
         }
-        Some(known)
+        Some(())
     }
 
     /// Looks at each premise once, and adds what it forces to the set. A chain names its premises in
@@ -84,9 +86,10 @@ impl<'a> Chain<'a> {
     pub(crate) fn follows(&self) -> bool
         ensures { Decides result (Refutes self.now.clause.now self.now.premises.now) }
     {
-        let Some(mut known) = self.seed() else {
+        let mut known = Known::empty();
+        if self.seed(&mut known).is_none() {
             return true;
-        };
+        }
         loop {
             match self.pass(&mut known) {
                 Outcome::Conflict => return true,

@@ -1,13 +1,18 @@
-use Rattle.std.proofs.Common.{refl, rules}
+use Rattle.std.proofs.Common.{refl, rules, tests}
 use Rattle.std.proofs.lemmas.Bool.{false≢true}
+use Rattle.chains.specs.Sets.{Clash, Seeds}
 use Rattle.chains.proofs.Tables.{clash, state_first, state_more, state_still}
 use Rattle.chains.proofs.search.Chain.follows.Goals as goal
 
-pub returns-in_default : goal.returns-in_default
-returns-in_default c = ((λ _. clash c.args.self.now.clause.now c.args.self.now.premises.now (search rules)), λ _. refl)
+pub returns-then-is_none : goal.returns-then-is_none
+returns-then-is_none c =
+    let k : Clash c.args.self.now.clause.now = search (rules, tests) in
+    ((λ _. clash c.args.self.now.clause.now c.args.self.now.premises.now k), λ _. refl)
 
 pub loop-init : goal.loop-init
-loop-init c = state_first c.args.self.now.clause.now c.args.self.now.premises.now c.in-Some.known c.in-Some.ensures
+loop-init c =
+    let k : Seeds c.args.self.now.clause.now c.seed.new.known = search (rules, tests) in
+    state_first c.args.self.now.clause.now c.args.self.now.premises.now c.seed.new.known k
 
 pub returns-in-Conflict : goal.returns-in-Conflict
 returns-in-Conflict c =

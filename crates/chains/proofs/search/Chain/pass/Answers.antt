@@ -14,7 +14,7 @@ returns-in-Nothing c =
     record {
       onward = c.loop-premise.invariant.2.onward;
       ended = conflict ps c.loop-premise.known q (next_has ps (length c.loop-premise.yielded) q t.0 t.1)
-          (subst (λ z. AllOut z c.loop-premise.known) c.literals.ensures c.in-Nothing.ensures);
+          (subst (λ z. AllOut z c.loop-premise.known) c.literals.ensures.literals c.in-Nothing.ensures);
     }
 
 pub add-requires : goal.add-requires
@@ -23,7 +23,7 @@ add-requires c =
     let q = c.in-Some.premise.now in
     let t = YieldsList-turn (YieldsList-from_rev_slice ps (cc)) c.loop-premise.yielded _ c.loop-premise.yielded_by _ _ c.in-Some.premise c.in-Some.is c.next.ensures.steps in
     placed_one ps q c.loop-premise.known c.in-One.literal (next_has ps (length c.loop-premise.yielded) q t.0 t.1)
-    (subst (λ z. ButOne z c.loop-premise.known c.in-One.literal) c.literals.ensures c.in-One.ensures) c.args.self.now.premises_placed
+    (subst (λ z. ButOne z c.loop-premise.known c.in-One.literal) c.literals.ensures.literals c.in-One.ensures) c.args.self.now.premises_placed
 
 pub loop-premise-preserved-then-not-has : goal.loop-premise-preserved-then-not-has
 loop-premise-preserved-then-not-has c =
@@ -33,7 +33,7 @@ loop-premise-preserved-then-not-has c =
     let t = YieldsList-turn (YieldsList-from_rev_slice ps (cc)) c.loop-premise.yielded _ c.loop-premise.yielded_by _ _ c.in-Some.premise c.in-Some.is c.next.ensures.steps in
     let s = c.loop-premise.known in
     let u = c.in-One.literal in
-    let f : ButOne q s u = subst (λ z. ButOne z s u) c.literals.ensures c.in-One.ensures in
+    let f : ButOne q s u = subst (λ z. ButOne z s u) c.literals.ensures.literals c.in-One.ensures in
     let out : holds s u ≡ false = sym c.has.ensures ∙ c.if-not-has.true in
     let w = walk_new ps _ c.args.known.now s c.loop-premise.grew q c.loop-premise.invariant.2 (next_has ps n q t.0 t.1) u f c.add.ensures.within out c.add.new.self c.add.ensures.one_more in
     (tt, tt, walk_on ps n q t.0 t.1 _ (length_push c.loop-premise.yielded c.in-Some.premise) c.args.known.now c.add.new.self true w)
@@ -46,7 +46,7 @@ loop-premise-preserved-else-not-has c =
     let t = YieldsList-turn (YieldsList-from_rev_slice ps (cc)) c.loop-premise.yielded _ c.loop-premise.yielded_by _ _ c.in-Some.premise c.in-Some.is c.next.ensures.steps in
     let s = c.loop-premise.known in
     let u = c.in-One.literal in
-    let f : ButOne q s u = subst (λ z. ButOne z s u) c.literals.ensures c.in-One.ensures in
+    let f : ButOne q s u = subst (λ z. ButOne z s u) c.literals.ensures.literals c.in-One.ensures in
     let known : holds s u ≡ true = sym c.has.ensures ∙ c.if-not-has.false in
     let w = walk_known ps _ c.args.known.now s c.loop-premise.grew q c.loop-premise.invariant.2 u f known in
     (tt, tt, walk_on ps n q t.0 t.1 _ (length_push c.loop-premise.yielded c.in-Some.premise) c.args.known.now s c.loop-premise.grew w)
@@ -58,7 +58,7 @@ loop-premise-preserved c =
     let n = length c.loop-premise.yielded in
     let t = YieldsList-turn (YieldsList-from_rev_slice ps (cc)) c.loop-premise.yielded _ c.loop-premise.yielded_by _ _ c.in-Some.premise c.in-Some.is c.next.ensures.steps in
     let s = c.loop-premise.known in
-    let f : ButTwo q s = subst (λ z. ButTwo z s) c.literals.ensures c.in-More.ensures in
+    let f : ButTwo q s = subst (λ z. ButTwo z s) c.literals.ensures.literals c.in-More.ensures in
     let w = walk_two ps _ c.args.known.now s c.loop-premise.grew q c.loop-premise.invariant.2 f in
     (tt, tt, walk_on ps n q t.0 t.1 _ (length_push c.loop-premise.yielded c.in-Some.premise) c.args.known.now s c.loop-premise.grew w)
 

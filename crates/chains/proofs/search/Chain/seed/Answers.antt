@@ -5,7 +5,7 @@ use Rattle.chains.proofs.Tables.{read, with_one, seeds_none, seeds_more, clash_a
 use Rattle.chains.proofs.search.Chain.seed.Goals as goal
 
 pub loop-literal-init : goal.loop-literal-init
-loop-literal-init c = subst (Seeds []) (sym c.empty-known.ensures) (seeds_none 8192)
+loop-literal-init c = subst (Seeds []) (sym c.requires) (seeds_none 8192)
 
 pub returns-then-has : goal.returns-then-has
 returns-then-has c =
